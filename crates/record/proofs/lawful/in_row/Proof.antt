@@ -1,0 +1,96 @@
+-- `in_row` meets its contract. The loop's invariant: what is left of the row and of the message fits exactly if the whole does.
+use mathlib.Core.Bool.{Bool, true, false, _&&_}
+use mathlib.Core.List.{List, [], map}
+use mathlib.Core.Path.{_≡_, _∙_, refl, sym, ap, ap₂, subst}
+use Prim.Native.Nat.{ℕ, _≤_, _<_, _-_, _+_, _*_}
+use native.Mathlib.Nat.{le-of-eq}
+use native.Mathlib.Omega.{arith}
+use borrow.Author.Needs.{needs}
+use lib.ListN.{drop, drop-of-length-le, getD, length}
+use Rattle.record.specs.Lawful.{Range, fits, kindRanges, letter, rangeLettered, unused, kinds, buyers, sellers, gateways, accounts, draws, codes, within}
+use Rattle.record.specs.Layout.{messageWidth}
+use Rattle.record.proofs.Chain.{goes-on, leaves}
+use Rattle.record.proofs.Rows.{Even, even-at, fits-from, flat, numbered}
+use Rattle.record.proofs.lawful.in_row.Statement.{statement}
+use Rattle.record.proofs.lawful.in_row.Tie as tie
+
+row-of : ℕ → List Range
+row-of k = getD kindRanges k []
+
+even : Even messageWidth kindRanges
+even = (refl, (refl, (refl, (refl, (refl, tt)))))
+
+lettered : (g : Range) → rangeLettered (letter g) ≡ g
+lettered unused = refl
+lettered kinds = refl
+lettered buyers = refl
+lettered sellers = refl
+lettered gateways = refl
+lettered accounts = refl
+lettered draws = refl
+lettered codes = refl
+
+-- the answer for the number at i, from the code's table, is the first test of what is left
+turn : (k i : ℕ) (m : List ℕ) (r : Bool) → k < 5 → i < messageWidth → length m ≡ messageWidth
+    → r ≡ within (rangeLettered (getD (map letter (flat kindRanges)) (k * messageWidth + i) 0)) (getD m i 0)
+    → fits (drop i (row-of k)) (drop i m) ≡ (r && fits (drop (i + 1) (row-of k)) (drop (i + 1) m))
+unfolding row-of
+turn k i m r h l e p =
+    fits-from (row-of k) m i (subst (λ (n : ℕ). i < n) (sym (even-at messageWidth kindRanges even k h)) l) (omega arith)
+    ∙ ap (λ (b : Bool). b && fits (drop (i + 1) (row-of k)) (drop (i + 1) m))
+    (sym (p
+    ∙ ap (λ (g : Range). within g (getD m i 0))
+    (ap rangeLettered (numbered letter messageWidth kindRanges unused even k i h l (omega arith)) ∙ lettered (getD (row-of k) i unused))))
+
+-- past the last position nothing is left
+over : (k i : ℕ) (m : List ℕ) → k < 5 → i ≡ messageWidth → length m ≡ messageWidth → fits (drop i (row-of k)) (drop i m) ≡ true
+unfolding row-of
+over k i m h e l =
+    ap₂ fits
+    (drop-of-length-le (row-of k) (le-of-eq (even-at messageWidth kindRanges even k h ∙ sym e)))
+    (drop-of-length-le m (le-of-eq (l ∙ sym e)))
+
+abbrev Inv-loop : tie.InvT-loop
+Inv-loop row m first i₀ i = (i ≤ messageWidth) × (fits (drop i (row-of row)) (drop i m) ≡ fits (row-of row) m)
+
+abbrev μ-loop : tie.MeasureT-loop
+μ-loop row m first i₀ i = messageWidth - i
+
+loop-holds : tie.Need-loop-holds Inv-loop μ-loop
+loop-holds c = (search needs, refl)
+
+returns : tie.Need-returns Inv-loop μ-loop
+unfolding row-of
+returns c =
+    leaves (c .before .in-range .result) _ (turn (c .before .before .before .before .before .before .args .row) (c .before .before .before .before .loop .i) (c .before .before .before .before .before .before .args .m .now) _ (c .before .before .before .before .before .before .pre .0) (c .before .before .before .loop-test .taken) (c .before .before .before .before .before .before .pre .1) (c .before .in-range .ensures)) (c .if1 .taken)
+    ∙ c .before .before .before .before .loop .inv .1
+
+loop-again : tie.Need-loop-again Inv-loop μ-loop
+loop-again c = (
+  omega arith,
+  goes-on (c .before .in-range .result) _ (turn (c .before .before .before .before .before .before .args .row) (c .before .before .before .before .loop .i) (c .before .before .before .before .before .before .args .m .now) _ (c .before .before .before .before .before .before .pre .0) (c .before .before .before .loop-test .taken) (c .before .before .before .before .before .before .pre .1) (c .before .in-range .ensures)) (c .if1 .left)
+      ∙ c .before .before .before .before .loop .inv .1,
+)
+
+returns-2 : tie.Need-returns-2 Inv-loop μ-loop
+unfolding row-of
+returns-2 c = sym (over (c .before .before .before .args .row) (c .before .loop .i) (c .before .before .before .args .m .now) (c .before .before .before .pre .0) (omega arith) (c .before .before .before .pre .1)) ∙ c .before .loop .inv .1
+
+pub in-row-spec : {M : Type 1} → statement M
+in-row-spec =
+    tie.close
+    (tie.spec
+    Inv-loop
+    μ-loop
+    (λ c. search needs)
+    loop-holds
+    (λ c. omega arith)
+    (λ c. omega arith)
+    (λ c. omega arith)
+    (λ c. omega arith)
+    (λ c κs. search needs)
+    returns
+    (λ c. omega arith)
+    (λ c. omega arith)
+    loop-again
+    returns-2)

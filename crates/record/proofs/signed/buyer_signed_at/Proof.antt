@@ -1,0 +1,20 @@
+use Rattle.record.specs.Parts.{buyerAt}
+use borrow.Author.Needs.{needs}
+use Rattle.record.proofs.signed.buyer_signed_at.Statement.{statement}
+use Rattle.record.proofs.signed.buyer_signed_at.Tie as tie
+
+returns : tie.Need-returns
+returns c = λ i. record { signer = buyerAt (c .before .before .before .before .args .m .now) (c .before .before .before .before .args .k); slip = c .before .before .slip-at .ensures i; mark = c .before .mark-at .ensures i }
+
+pub buyer-signed-at-spec : {M : Type 1} → statement M
+buyer-signed-at-spec =
+    tie.close
+    (tie.spec
+    (λ c. search needs)
+    (λ c κs. search needs)
+    (λ c. search needs)
+    (λ c. search needs)
+    (λ c κs. search needs)
+    (λ c. search needs)
+    (λ c. search needs)
+    returns)

@@ -1,0 +1,15 @@
+use Rattle.record.proofs.Chain.{skip, stop}
+use mathlib.Core.Path.{refl}
+use borrow.Author.Tests.{eq-eqb, ne-eqb}
+use borrow.Author.Needs.{needs}
+use Rattle.record.proofs.table.is_whole.Statement.{statement}
+use Rattle.record.proofs.table.is_whole.Tie as tie
+
+returns : tie.Need-returns
+returns c = stop _ (ne-eqb _ _ (c .if1 .taken))
+
+returns-2 : tie.Need-returns-2
+returns-2 c = skip (eq-eqb _ _ (c .if1 .left)) refl
+
+pub is-whole-spec : {M : Type 1} → statement M
+is-whole-spec = tie.close (tie.spec returns (λ c. search needs) returns-2)

@@ -1,0 +1,6 @@
+pub mod Layout
+pub mod Lawful
+pub mod Parts
+pub mod Signed
+pub mod Table
+pub mod Tests

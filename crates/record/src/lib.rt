@@ -1,0 +1,7 @@
+// The layer of messages: the parties and the parts of a message, where they stand, which messages are lawful, and the
+// record, a flat table of 16-bit numbers with 48 to a message. Positions are known in this crate and in none above it.
+pub mod lawful;
+pub mod layout;
+pub mod parts;
+pub mod signed;
+pub mod table;

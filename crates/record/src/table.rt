@@ -1,0 +1,58 @@
+// The record: a flat table of numbers, 48 to a message, and how many messages stand in it.
+use crate::lawful::is_lawful;
+use crate::layout::MESSAGE_WIDTH;
+use crate::parts::Place;
+ghost use mathlib.Core.Path.{_≡_};
+ghost use Prim.Native.Nat.{_*_, _≤_};
+ghost use lib.ListN.{length};
+ghost use Rattle.record.specs.Layout.{messageWidth};
+ghost use Rattle.record.specs.Table.{lawfulRecord, messageIn, roomOf, whole};
+
+pub const MOST_ROOM: usize = 512;
+
+// How many messages the table has room for.
+pub fn room(t: &[u16]) -> usize
+    ensures { λ r. ⌜ r ≡ roomOf (now (t .entry)) ⌝ }
+{
+    t.len() / MESSAGE_WIDTH
+}
+
+// Refusal 1 by length only.
+pub fn is_whole(t: &[u16]) -> bool
+    ensures { λ r. ⌜ r ≡ whole (now (t .entry)) ⌝ }
+{
+    if t.len() % MESSAGE_WIDTH != 0 {
+        return false;
+    }
+    t.len() <= MOST_ROOM * MESSAGE_WIDTH
+}
+
+// The message at a place.
+pub fn message(t: &[u16], place: Place) -> &[u16]
+    requires { ⌜ (1 ≤ place .0) × (place .0 * messageWidth ≤ length (now t)) ⌝ }
+    ensures { λ r. ⌜ (now r ≡ messageIn (now (t .entry)) place) × (length (now r) ≡ messageWidth) ⌝ }
+{
+    let from = (place.0 - 1) * MESSAGE_WIDTH;
+    let to = from + MESSAGE_WIDTH;
+    &t[from..to]
+}
+
+// Refusal 1: the length, the count, and each of messages 1 to n.
+pub fn is_lawful_record(t: &[u16], n: usize) -> bool
+    ensures { λ r. ⌜ r ≡ lawfulRecord n (now (t .entry)) ⌝ }
+{
+    if !is_whole(t) {
+        return false;
+    }
+    if room(t) < n {
+        return false;
+    }
+    let mut i = 0;
+    while i < n {
+        if !is_lawful(message(t, Place(i + 1))) {
+            return false;
+        }
+        i += 1;
+    }
+    true
+}
