@@ -7,6 +7,7 @@ use lib.ListN.{getD}
 use Rattle.record.specs.Tests.{same}
 use Rattle.record.specs.declared.parts.Account.{Account}
 use Rattle.record.specs.declared.parts.Buyer.{Buyer}
+use Rattle.record.specs.declared.parts.Drawn.{Drawn}
 use Rattle.record.specs.declared.parts.Gateway.{Gateway}
 use Rattle.record.specs.declared.parts.Hashed.{Hashed}
 use Rattle.record.specs.declared.parts.Mark.{Mark}
@@ -17,14 +18,17 @@ use Rattle.record.specs.declared.parts.Slip.{Slip}
 abbrev pub Message : Type 0
 Message = List ℕ
 
+abbrev pub drawnWidth : ℕ
+drawnWidth = 2
+
 abbrev pub hashedWidth : ℕ
-hashedWidth = 3
+hashedWidth = drawnWidth + 1
 
 abbrev pub markWidth : ℕ
 markWidth = 2 + hashedWidth
 
 abbrev pub slipWidth : ℕ
-slipWidth = 1 + markWidth + 3
+slipWidth = 1 + markWidth + 1 + drawnWidth
 
 -- a party or an account is one number
 abbrev pub buyerAt : Message → ℕ → Buyer
@@ -46,12 +50,19 @@ ownerOf a = record { 0 = a .0 }
 abbrev pub accountOf : Buyer → Account
 accountOf b = record { 0 = b .0 }
 
+-- drawer and draw
+abbrev pub drawnAt : Message → ℕ → Drawn
+drawnAt m k = record { drawer = buyerAt m k; draw = getD m (k + 1) 0 }
+
+abbrev pub drawnNumbers : Drawn → List ℕ
+drawnNumbers r = r .drawer .0 ∷ r .draw ∷ []
+
 -- a hashed account: drawer, draw, account
 abbrev pub hashedAt : Message → ℕ → Hashed
-hashedAt m k = record { drawer = buyerAt m k; draw = getD m (k + 1) 0; account = accountAt m (k + 2) }
+hashedAt m k = record { drawn = drawnAt m k; account = accountAt m (k + drawnWidth) }
 
 abbrev pub hashedNumbers : Hashed → List ℕ
-hashedNumbers h = h .drawer .0 ∷ h .draw ∷ h .account .0 ∷ []
+hashedNumbers h = drawnNumbers (h .drawn) ++ (h .account .0 ∷ [])
 
 -- a mark: seller, buyer, hashed account
 abbrev pub markAt : Message → ℕ → Mark
@@ -67,14 +78,16 @@ slipAt m k =
       key = gatewayAt m k;
       mark = markAt m (k + 1);
       account = accountAt m (k + 1 + markWidth);
-      drawer = buyerAt m (k + 1 + markWidth + 1);
-      draw = getD m (k + 1 + markWidth + 2) 0;
+      drawn = drawnAt m (k + 1 + markWidth + 1);
     }
 
 abbrev pub slipNumbers : Slip → List ℕ
-slipNumbers x = x .key .0 ∷ (markNumbers (x .mark) ++ (x .account .0 ∷ x .drawer .0 ∷ x .draw ∷ []))
+slipNumbers x = x .key .0 ∷ (markNumbers (x .mark) ++ (x .account .0 ∷ drawnNumbers (x .drawn)))
 
 -- the same part
+abbrev pub sameDrawn : Drawn → Drawn → Bool
+sameDrawn a b = same (drawnNumbers a) (drawnNumbers b)
+
 abbrev pub sameHashed : Hashed → Hashed → Bool
 sameHashed a b = same (hashedNumbers a) (hashedNumbers b)
 

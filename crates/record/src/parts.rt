@@ -2,13 +2,29 @@
 ghost use mathlib.Core.Path.{_≡_};
 ghost use Prim.Native.Nat.{_+_, _≤_};
 ghost use lib.ListN.{length};
-ghost use Rattle.record.specs.Parts.{hashedAt, markAt, slipAt, hashedWidth, markWidth, slipWidth, ownerOf, sameHashed, sameMark, sameSlip};
+ghost use Rattle.record.specs.Parts.{
+  drawnAt,
+  drawnWidth,
+  hashedAt,
+  hashedWidth,
+  markAt,
+  markWidth,
+  ownerOf,
+  sameDrawn,
+  sameHashed,
+  sameMark,
+  sameSlip,
+  slipAt,
+  slipWidth,
+};
 
-pub const HASHED_WIDTH: usize = 3;
+pub const DRAWN_WIDTH: usize = 2;
+
+pub const HASHED_WIDTH: usize = DRAWN_WIDTH + 1;
 
 pub const MARK_WIDTH: usize = 2 + HASHED_WIDTH;
 
-pub const SLIP_WIDTH: usize = 1 + MARK_WIDTH + 3;
+pub const SLIP_WIDTH: usize = 1 + MARK_WIDTH + 1 + DRAWN_WIDTH;
 
 // Buyer 3, seller 3, account 3 and place 3 are four different things.
 pub struct Buyer(pub u16);
@@ -21,9 +37,15 @@ pub struct Account(pub u16);
 
 pub struct Place(pub usize);
 
-pub struct Hashed {
+// Who drew a random number, and the number.
+pub struct Drawn {
     pub drawer: Buyer,
     pub draw: u16,
+}
+
+// A hashed account.
+pub struct Hashed {
+    pub drawn: Drawn,
     pub account: Account,
 }
 
@@ -34,12 +56,12 @@ pub struct Mark {
     pub hashed: Hashed,
 }
 
+// What only the gateway with this key can read.
 pub struct Slip {
     pub key: Gateway,
     pub mark: Mark,
     pub account: Account,
-    pub drawer: Buyer,
-    pub draw: u16,
+    pub drawn: Drawn,
 }
 
 // A buyer's account bears the buyer's number.
@@ -49,14 +71,24 @@ pub fn owner(account: Account) -> Buyer
     Buyer(account.0)
 }
 
+pub fn drawn_at(m: &[u16], k: usize) -> Drawn
+    requires { ⌜ k + drawnWidth ≤ length (now m) ⌝ }
+    ensures { λ r. ⌜ r ≡ drawnAt (now (m .entry)) k ⌝ }
+{
+    Drawn {
+        drawer: Buyer(m[k]),
+        draw: m[k + 1],
+    }
+}
+
 pub fn hashed_at(m: &[u16], k: usize) -> Hashed
     requires { ⌜ k + hashedWidth ≤ length (now m) ⌝ }
     ensures { λ r. ⌜ r ≡ hashedAt (now (m .entry)) k ⌝ }
 {
+    let drawn = drawn_at(m, k);
     Hashed {
-        drawer: Buyer(m[k]),
-        draw: m[k + 1],
-        account: Account(m[k + 2]),
+        drawn,
+        account: Account(m[k + DRAWN_WIDTH]),
     }
 }
 
@@ -78,22 +110,28 @@ pub fn slip_at(m: &[u16], k: usize) -> Slip
 {
     let mark = mark_at(m, k + 1);
     let rest = k + 1 + MARK_WIDTH;
+    let drawn = drawn_at(m, rest + 1);
     Slip {
         key: Gateway(m[k]),
         mark,
         account: Account(m[rest]),
-        drawer: Buyer(m[rest + 1]),
-        draw: m[rest + 2],
+        drawn,
     }
+}
+
+pub fn same_drawn(a: Drawn, b: Drawn) -> bool
+    ensures { λ r. ⌜ r ≡ sameDrawn a b ⌝ }
+{
+    if a.drawer.0 != b.drawer.0 {
+        return false;
+    }
+    a.draw == b.draw
 }
 
 pub fn same_hashed(a: Hashed, b: Hashed) -> bool
     ensures { λ r. ⌜ r ≡ sameHashed a b ⌝ }
 {
-    if a.drawer.0 != b.drawer.0 {
-        return false;
-    }
-    if a.draw != b.draw {
+    if !same_drawn(a.drawn, b.drawn) {
         return false;
     }
     a.account.0 == b.account.0
@@ -123,8 +161,5 @@ pub fn same_slip(a: Slip, b: Slip) -> bool
     if a.account.0 != b.account.0 {
         return false;
     }
-    if a.drawer.0 != b.drawer.0 {
-        return false;
-    }
-    a.draw == b.draw
+    same_drawn(a.drawn, b.drawn)
 }

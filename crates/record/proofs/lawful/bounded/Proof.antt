@@ -1,6 +1,6 @@
+use borrow.Author.Tests.{le-leb, lt-leb}
 use mathlib.Core.Path.{refl}
 use Rattle.record.proofs.Chain.{skip, stop}
-use borrow.Author.Tests.{le-leb, lt-leb}
 use Rattle.record.proofs.lawful.bounded.Statement.{statement}
 use Rattle.record.proofs.lawful.bounded.Tie as tie
 

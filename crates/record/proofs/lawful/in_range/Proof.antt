@@ -1,5 +1,5 @@
-use borrow.Author.Tests.{ne-eqb}
 use borrow.Author.Needs.{needs}
+use borrow.Author.Tests.{ne-eqb}
 use Rattle.record.proofs.lawful.in_range.Statement.{statement}
 use Rattle.record.proofs.lawful.in_range.Tie as tie
 

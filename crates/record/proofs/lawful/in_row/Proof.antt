@@ -1,16 +1,16 @@
 -- `in_row` meets its contract. The loop's invariant: what is left of the row and of the message fits exactly if the whole does.
+use Prim.Native.Nat.{ℕ, _≤_, _<_, _-_, _+_, _*_}
+use borrow.Author.Needs.{needs}
+use lib.ListN.{drop, drop-of-length-le, getD, length}
 use mathlib.Core.Bool.{Bool, true, false, _&&_}
 use mathlib.Core.List.{List, [], map}
 use mathlib.Core.Path.{_≡_, _∙_, refl, sym, ap, ap₂, subst}
-use Prim.Native.Nat.{ℕ, _≤_, _<_, _-_, _+_, _*_}
 use native.Mathlib.Nat.{le-of-eq}
 use native.Mathlib.Omega.{arith}
-use borrow.Author.Needs.{needs}
-use lib.ListN.{drop, drop-of-length-le, getD, length}
-use Rattle.record.specs.Lawful.{Range, fits, kindRanges, letter, rangeLettered, unused, kinds, buyers, sellers, gateways, accounts, draws, codes, within}
-use Rattle.record.specs.Layout.{messageWidth}
 use Rattle.record.proofs.Chain.{goes-on, leaves}
 use Rattle.record.proofs.Rows.{Even, even-at, fits-from, flat, numbered}
+use Rattle.record.specs.Lawful.{Range, fits, kindRanges, letter, rangeLettered, unused, kinds, buyers, sellers, gateways, accounts, draws, codes, within}
+use Rattle.record.specs.Layout.{messageWidth}
 use Rattle.record.proofs.lawful.in_row.Statement.{statement}
 use Rattle.record.proofs.lawful.in_row.Tie as tie
 
@@ -62,19 +62,30 @@ loop-holds c = (search needs, refl)
 returns : tie.Need-returns Inv-loop μ-loop
 unfolding row-of
 returns c =
-    leaves (c .before .in-range .result) _ (turn (c .before .before .before .before .before .before .args .row) (c .before .before .before .before .loop .i) (c .before .before .before .before .before .before .args .m .now) _ (c .before .before .before .before .before .before .pre .0) (c .before .before .before .loop-test .taken) (c .before .before .before .before .before .before .pre .1) (c .before .in-range .ensures)) (c .if1 .taken)
-    ∙ c .before .before .before .before .loop .inv .1
+    let the-loop-test = c .before .before .before .loop-test in
+    let the-loop = c .before .before .before .before .loop in
+    let the-args = c .before .before .before .before .before .before .args in
+    let the-pre = c .before .before .before .before .before .before .pre in
+    leaves (c .before .in-range .result) _ (turn (the-args .row) (the-loop .i) (the-args .m .now) _ (the-pre .0) (the-loop-test .taken) (the-pre .1) (c .before .in-range .ensures)) (c .if1 .taken)
+    ∙ the-loop .inv .1
 
 loop-again : tie.Need-loop-again Inv-loop μ-loop
-loop-again c = (
-  omega arith,
-  goes-on (c .before .in-range .result) _ (turn (c .before .before .before .before .before .before .args .row) (c .before .before .before .before .loop .i) (c .before .before .before .before .before .before .args .m .now) _ (c .before .before .before .before .before .before .pre .0) (c .before .before .before .loop-test .taken) (c .before .before .before .before .before .before .pre .1) (c .before .in-range .ensures)) (c .if1 .left)
-      ∙ c .before .before .before .before .loop .inv .1,
-)
+loop-again c =
+    let the-loop-test = c .before .before .before .loop-test in
+    let the-loop = c .before .before .before .before .loop in
+    let the-args = c .before .before .before .before .before .before .args in
+    let the-pre = c .before .before .before .before .before .before .pre in (
+      omega arith,
+      goes-on (c .before .in-range .result) _ (turn (the-args .row) (the-loop .i) (the-args .m .now) _ (the-pre .0) (the-loop-test .taken) (the-pre .1) (c .before .in-range .ensures)) (c .if1 .left)
+          ∙ the-loop .inv .1,
+    )
 
 returns-2 : tie.Need-returns-2 Inv-loop μ-loop
 unfolding row-of
-returns-2 c = sym (over (c .before .before .before .args .row) (c .before .loop .i) (c .before .before .before .args .m .now) (c .before .before .before .pre .0) (omega arith) (c .before .before .before .pre .1)) ∙ c .before .loop .inv .1
+returns-2 c =
+    let the-args = c .before .before .before .args in
+    let the-pre = c .before .before .before .pre in
+    sym (over (the-args .row) (c .before .loop .i) (the-args .m .now) (the-pre .0) (omega arith) (the-pre .1)) ∙ c .before .loop .inv .1
 
 pub in-row-spec : {M : Type 1} → statement M
 in-row-spec =

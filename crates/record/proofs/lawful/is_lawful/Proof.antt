@@ -1,14 +1,14 @@
-use Rattle.record.proofs.Chain.{skip, stop}
-use Rattle.record.specs.Layout.{kindOf, messageWidth}
-use Rattle.record.specs.Lawful.{Range, fits, kindRanges}
-use lib.ListN.{List·getD-eq-default, getD, length}
-use native.Mathlib.Omega.{arith}
 use Prim.Native.Nat.{ℕ, zero, suc, _-_, _<_}
-use mathlib.Core.Path.{_≡_, _∙_, refl, sym, ap}
-use mathlib.Core.List.{List, [], _∷_}
-use mathlib.Core.Bool.{false}
-use borrow.Author.Tests.{eq-eqb, ne-eqb}
 use borrow.Author.Needs.{needs}
+use borrow.Author.Tests.{eq-eqb, ne-eqb}
+use lib.ListN.{List·getD-eq-default, getD, length}
+use mathlib.Core.Bool.{false}
+use mathlib.Core.List.{List, [], _∷_}
+use mathlib.Core.Path.{_≡_, _∙_, refl, sym, ap}
+use native.Mathlib.Omega.{arith}
+use Rattle.record.proofs.Chain.{skip, stop}
+use Rattle.record.specs.Lawful.{Range, fits, kindRanges}
+use Rattle.record.specs.Layout.{kindOf, messageWidth}
 use Rattle.record.proofs.lawful.is_lawful.Statement.{statement}
 use Rattle.record.proofs.lawful.is_lawful.Tie as tie
 
@@ -30,13 +30,21 @@ returns : tie.Need-returns
 returns c = stop _ (ne-eqb _ _ (c .if1 .taken))
 
 returns-2 : tie.Need-returns-2
-returns-2 c = skip (eq-eqb _ _ (c .before .before .if1 .left)) (below (c .before .before .before .before .args .m .now) (c .before .before .if1 .left) (c .if2 .taken))
+returns-2 c =
+    let the-if1 = c .before .before .if1 in
+    let the-args = c .before .before .before .before .args in
+    skip (eq-eqb _ _ (the-if1 .left)) (below (the-args .m .now) (the-if1 .left) (c .if2 .taken))
 
 returns-3 : tie.Need-returns-3
-returns-3 c = skip (eq-eqb _ _ (c .before .before .before .if1 .left)) (above (c .before .before .before .before .before .args .m .now) (c .before .before .before .if1 .left) (c .if3 .taken))
+returns-3 c =
+    let the-if1 = c .before .before .before .if1 in
+    let the-args = c .before .before .before .before .before .args in
+    skip (eq-eqb _ _ (the-if1 .left)) (above (the-args .m .now) (the-if1 .left) (c .if3 .taken))
 
 returns-4 : tie.Need-returns-4
-returns-4 c = skip (eq-eqb _ _ (c .before .before .before .before .if1 .left)) (c .in-row .ensures)
+returns-4 c =
+    let the-if1 = c .before .before .before .before .if1 in
+    skip (eq-eqb _ _ (the-if1 .left)) (c .in-row .ensures)
 
 pub is-lawful-spec : {M : Type 1} → statement M
 is-lawful-spec =

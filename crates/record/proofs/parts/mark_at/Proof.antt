@@ -1,11 +1,14 @@
-use Rattle.record.specs.Parts.{buyerAt, sellerAt}
 use Prim.Native.Nat.{_+_}
 use borrow.Author.Needs.{needs}
+use Rattle.record.specs.Parts.{buyerAt, sellerAt}
 use Rattle.record.proofs.parts.mark_at.Statement.{statement}
 use Rattle.record.proofs.parts.mark_at.Tie as tie
 
 returns : tie.Need-returns
-returns c = λ i. record { seller = sellerAt (c .before .before .before .before .args .m .now) (c .before .before .before .before .args .k); buyer = buyerAt (c .before .before .before .before .args .m .now) (c .before .before .before .before .args .k + 1); hashed = c .before .before .hashed-at .ensures i }
+returns c =
+    let the-hashed-at = c .before .before .hashed-at in
+    let the-args = c .before .before .before .before .args in
+    λ i. record { seller = sellerAt (the-args .m .now) (the-args .k); buyer = buyerAt (the-args .m .now) (the-args .k + 1); hashed = the-hashed-at .ensures i }
 
 pub mark-at-spec : {M : Type 1} → statement M
 mark-at-spec =

@@ -1,10 +1,13 @@
-use Rattle.record.specs.Parts.{buyerAt}
 use borrow.Author.Needs.{needs}
+use Rattle.record.specs.Parts.{buyerAt}
 use Rattle.record.proofs.signed.buyer_signed_at.Statement.{statement}
 use Rattle.record.proofs.signed.buyer_signed_at.Tie as tie
 
 returns : tie.Need-returns
-returns c = λ i. record { signer = buyerAt (c .before .before .before .before .args .m .now) (c .before .before .before .before .args .k); slip = c .before .before .slip-at .ensures i; mark = c .before .mark-at .ensures i }
+returns c =
+    let the-slip-at = c .before .before .slip-at in
+    let the-args = c .before .before .before .before .args in
+    λ i. record { signer = buyerAt (the-args .m .now) (the-args .k); slip = the-slip-at .ensures i; mark = c .before .mark-at .ensures i }
 
 pub buyer-signed-at-spec : {M : Type 1} → statement M
 buyer-signed-at-spec =

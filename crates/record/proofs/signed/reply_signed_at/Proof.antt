@@ -1,12 +1,15 @@
 use Prim.Native.Nat.{_+_}
+use borrow.Author.Needs.{needs}
 use lib.ListN.{getD}
 use Rattle.record.specs.Parts.{gatewayAt}
-use borrow.Author.Needs.{needs}
 use Rattle.record.proofs.signed.reply_signed_at.Statement.{statement}
 use Rattle.record.proofs.signed.reply_signed_at.Tie as tie
 
 returns : tie.Need-returns
-returns c = λ i. record { signer = gatewayAt (c .before .before .before .before .args .m .now) (c .before .before .before .before .args .k); code = getD (c .before .before .before .before .args .m .now) (c .before .before .before .before .args .k + 1) 0; mark = c .before .before .mark-at .ensures i }
+returns c =
+    let the-mark-at = c .before .before .mark-at in
+    let the-args = c .before .before .before .before .args in
+    λ i. record { signer = gatewayAt (the-args .m .now) (the-args .k); code = getD (the-args .m .now) (the-args .k + 1) 0; mark = the-mark-at .ensures i }
 
 pub reply-signed-at-spec : {M : Type 1} → statement M
 reply-signed-at-spec =

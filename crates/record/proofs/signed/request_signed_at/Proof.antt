@@ -1,10 +1,13 @@
-use Rattle.record.specs.Parts.{sellerAt}
 use borrow.Author.Needs.{needs}
+use Rattle.record.specs.Parts.{sellerAt}
 use Rattle.record.proofs.signed.request_signed_at.Statement.{statement}
 use Rattle.record.proofs.signed.request_signed_at.Tie as tie
 
 returns : tie.Need-returns
-returns c = λ i. record { signer = sellerAt (c .before .before .before .before .args .m .now) (c .before .before .before .before .args .k); mark = c .before .before .mark-at .ensures i; slip = c .before .slip-at .ensures i }
+returns c =
+    let the-mark-at = c .before .before .mark-at in
+    let the-args = c .before .before .before .before .args in
+    λ i. record { signer = sellerAt (the-args .m .now) (the-args .k); mark = the-mark-at .ensures i; slip = c .before .slip-at .ensures i }
 
 pub request-signed-at-spec : {M : Type 1} → statement M
 request-signed-at-spec =

@@ -1,19 +1,19 @@
-use Rattle.record.proofs.Cut.{all-from, cut-at, length-cut}
-use Rattle.record.proofs.Chain.{goes-on, leaves, skip, stop}
-use Rattle.record.specs.Tests.{all}
-use Rattle.record.specs.Table.{messageIn, messages, roomOf}
-use Rattle.record.specs.Lawful.{lawful}
-use Rattle.record.specs.Layout.{messageWidth}
-use Rattle.record.specs.Parts.{Message}
-use lib.ListN.{drop, drop-of-length-le, take}
-use borrow.Author.Tests.{le-leb, lt-leb, not-true, not-false}
-use borrow.Author.Needs.{needs}
-use native.Mathlib.Omega.{arith}
 use Prim.Native.Nat.{ℕ, _≤_, _-_, _<_, _+_, _*_}
-use native.Mathlib.Nat.{le-of-eq}
+use borrow.Author.Needs.{needs}
+use borrow.Author.Tests.{le-leb, lt-leb, not-true, not-false}
+use lib.ListN.{drop, drop-of-length-le, take}
 use mathlib.Core.Bool.{Bool, true, _&&_}
 use mathlib.Core.List.{List, []}
 use mathlib.Core.Path.{_≡_, _∙_, refl, sym, ap}
+use native.Mathlib.Nat.{le-of-eq}
+use native.Mathlib.Omega.{arith}
+use Rattle.record.proofs.Chain.{goes-on, leaves, skip, stop}
+use Rattle.record.proofs.Cut.{all-from, cut-at, length-cut}
+use Rattle.record.specs.Lawful.{lawful}
+use Rattle.record.specs.Layout.{messageWidth}
+use Rattle.record.specs.Parts.{Message}
+use Rattle.record.specs.Table.{messageIn, messages, roomOf}
+use Rattle.record.specs.Tests.{all}
 use Rattle.record.proofs.table.is_lawful_record.Statement.{statement}
 use Rattle.record.proofs.table.is_lawful_record.Tie as tie
 
@@ -39,29 +39,46 @@ returns : tie.Need-returns Inv-loop μ-loop
 returns c = stop _ (sym (c .before .is-whole .ensures) ∙ not-true _ (c .if1 .taken))
 
 returns-2 : tie.Need-returns-2 Inv-loop μ-loop
-returns-2 c = skip (sym (c .before .before .before .is-whole .ensures) ∙ not-false _ (c .before .before .if1 .left)) (stop _ (lt-leb (c .before .before .before .before .before .args .n) (roomOf (c .before .before .before .before .before .args .t .now)) (omega arith)))
+returns-2 c =
+    let the-if1 = c .before .before .if1 in
+    let the-is-whole = c .before .before .before .is-whole in
+    let the-args = c .before .before .before .before .before .args in
+    skip (sym (the-is-whole .ensures) ∙ not-false _ (the-if1 .left)) (stop _ (lt-leb (the-args .n) (roomOf (the-args .t .now)) (omega arith)))
 
 loop-holds : tie.Need-loop-holds Inv-loop μ-loop
 loop-holds c = (search needs, refl)
 
 returns-3 : tie.Need-returns-3 Inv-loop μ-loop
 returns-3 c =
-    skip (sym (c .before .before .before .before .before .before .before .before .is-whole .ensures) ∙ not-false _ (c .before .before .before .before .before .before .before .if1 .left))
-    (skip (le-leb (c .before .before .before .before .before .before .before .before .before .before .args .n) (roomOf (c .before .before .before .before .before .before .before .before .before .before .args .t .now)) (omega arith))
-    (leaves (c .before .is-lawful .result) _ (turn (c .before .before .before .before .before .before .before .before .before .before .args .n) (c .before .before .before .before .before .before .before .before .before .before .args .t .now) (c .before .before .before .before .loop .i) _ (c .before .before .before .loop-test .taken) (c .before .before .message .ensures .0) (c .before .is-lawful .ensures)) (c .if3 .taken)
-    ∙ c .before .before .before .before .loop .inv .1))
+    let the-message = c .before .before .message in
+    let the-loop-test = c .before .before .before .loop-test in
+    let the-loop = c .before .before .before .before .loop in
+    let the-if1 = c .before .before .before .before .before .before .before .if1 in
+    let the-is-whole = c .before .before .before .before .before .before .before .before .is-whole in
+    let the-args = c .before .before .before .before .before .before .before .before .before .before .args in
+    skip (sym (the-is-whole .ensures) ∙ not-false _ (the-if1 .left))
+    (skip (le-leb (the-args .n) (roomOf (the-args .t .now)) (omega arith))
+    (leaves (c .before .is-lawful .result) _ (turn (the-args .n) (the-args .t .now) (the-loop .i) _ (the-loop-test .taken) (the-message .ensures .0) (c .before .is-lawful .ensures)) (c .if3 .taken)
+    ∙ the-loop .inv .1))
 
 loop-again : tie.Need-loop-again Inv-loop μ-loop
-loop-again c = (
-  omega arith,
-  goes-on (c .before .is-lawful .result) _ (turn (c .before .before .before .before .before .before .before .before .before .before .args .n) (c .before .before .before .before .before .before .before .before .before .before .args .t .now) (c .before .before .before .before .loop .i) _ (c .before .before .before .loop-test .taken) (c .before .before .message .ensures .0) (c .before .is-lawful .ensures)) (c .if3 .left)
-      ∙ c .before .before .before .before .loop .inv .1,
-)
+loop-again c =
+    let the-message = c .before .before .message in
+    let the-loop-test = c .before .before .before .loop-test in
+    let the-loop = c .before .before .before .before .loop in
+    let the-args = c .before .before .before .before .before .before .before .before .before .before .args in (
+      omega arith,
+      goes-on (c .before .is-lawful .result) _ (turn (the-args .n) (the-args .t .now) (the-loop .i) _ (the-loop-test .taken) (the-message .ensures .0) (c .before .is-lawful .ensures)) (c .if3 .left)
+          ∙ the-loop .inv .1,
+    )
 
 returns-4 : tie.Need-returns-4 Inv-loop μ-loop
 returns-4 c =
-    skip (sym (c .before .before .before .before .before .is-whole .ensures) ∙ not-false _ (c .before .before .before .before .if1 .left))
-    (skip (le-leb (c .before .before .before .before .before .before .before .args .n) (roomOf (c .before .before .before .before .before .before .before .args .t .now)) (omega arith)) (sym (over (c .before .before .before .before .before .before .before .args .n) (c .before .before .before .before .before .before .before .args .t .now) (c .before .loop .i) (omega arith)) ∙ c .before .loop .inv .1))
+    let the-if1 = c .before .before .before .before .if1 in
+    let the-is-whole = c .before .before .before .before .before .is-whole in
+    let the-args = c .before .before .before .before .before .before .before .args in
+    skip (sym (the-is-whole .ensures) ∙ not-false _ (the-if1 .left))
+    (skip (le-leb (the-args .n) (roomOf (the-args .t .now)) (omega arith)) (sym (over (the-args .n) (the-args .t .now) (c .before .loop .i) (omega arith)) ∙ c .before .loop .inv .1))
 
 pub is-lawful-record-spec : {M : Type 1} → statement M
 is-lawful-record-spec =
