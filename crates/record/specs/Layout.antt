@@ -3,7 +3,7 @@
 use Prim.Native.Nat.{ℕ, _+_, _-_}
 use mathlib.Core.List.{List, _∷_, _++_}
 use lib.ListN.{getD, length, replicate}
-use Rattle.record.specs.Parts.{Message, hashedNumbers, markNumbers, markWidth, slipNumbers, slipWidth}
+use Rattle.record.specs.Parts.{Message, drawnWidth, hashedNumbers, markNumbers, markWidth, slipNumbers, slipWidth}
 use Rattle.record.specs.Signed.{
   buyerSignedNumbers,
   buyerSignedWidth,
@@ -49,6 +49,13 @@ destination = 3
 -- the first position after those: an Initiate's hashed account, an Invoice's or a request's mark, a Payment's slip, a reply's code
 abbrev pub body : ℕ
 body = 4
+
+-- an Initiate's account, and the buyer of an Invoice's or a request's mark
+abbrev pub initiateAccount : ℕ
+initiateAccount = body + drawnWidth
+
+abbrev pub markBuyer : ℕ
+markBuyer = body + 1
 
 abbrev pub invoiceSigned : ℕ
 invoiceSigned = body + markWidth

@@ -1,0 +1,9 @@
+pub mod Codes
+pub mod Forged
+pub mod Gates
+pub mod Honest
+pub mod Items
+pub mod Lists
+pub mod Report
+pub mod Run
+pub mod Step

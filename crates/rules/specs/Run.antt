@@ -1,0 +1,65 @@
+-- A run of a list of steps: from an empty record, each step judged against what the steps before it left.
+use Prim.Native.Nat.{ℕ, _*_, _/_, _%_}
+use mathlib.Core.Bool.{Bool, _&&_}
+use mathlib.Core.List.{List, [], _∷_, _++_}
+use lib.Dec.{eqb, leb}
+use lib.ListN.{drop, length}
+use Rattle.record.specs.Layout.{messageWidth}
+use Rattle.record.specs.Table.{Record, cut, roomOf, whole}
+use Rattle.rules.specs.Gates.{_unless_, through}
+use Rattle.rules.specs.Step.{Step, judge, numberOf, recordAfter}
+
+-- the record after a list of steps, and the number of each
+unfoldable pub played : ℕ → ℕ → Record → List Step → Record
+played answers room R [] = R
+played answers room R (s ∷ ss) = played answers room (recordAfter R (judge answers room R s)) ss
+
+unfoldable pub verdicts : ℕ → ℕ → Record → List Step → List ℕ
+verdicts answers room R [] = []
+verdicts answers room R (s ∷ ss) =
+    numberOf (judge answers room R s) ∷ verdicts answers room (recordAfter R (judge answers room R s)) ss
+
+-- the messages of a record, one after the other
+abbrev pub flat : Record → List ℕ
+flat [] = []
+flat (x ∷ R) = x ++ flat R
+
+-- written over the front of a table; later numbers stay
+abbrev pub over : List ℕ → List ℕ → List ℕ
+over xs t = xs ++ drop (length xs) t
+
+abbrev pub stepWidth : ℕ
+stepWidth = 7
+
+abbrev pub mostSteps : ℕ
+mostSteps = 1024
+
+-- the steps of a list of numbers
+abbrev pub stepCount : List ℕ → ℕ
+stepCount xs = length xs / stepWidth
+
+abbrev pub stepsOf : List ℕ → List Step
+stepsOf xs = cut stepWidth (stepCount xs) xs
+
+-- refusal 8
+abbrev pub wholeSteps : List ℕ → Bool
+wholeSteps xs = eqb (length xs % stepWidth) 0 && leb (length xs) (mostSteps * stepWidth)
+
+-- what a run returns and leaves: the number, n, the record table and the verdict bytes
+pub record Ran : Type 0 where
+  pub number : ℕ
+  pub n : ℕ
+  pub table : List ℕ
+  pub verdictBytes : List ℕ
+
+unfoldable pub run : ℕ → List ℕ → List ℕ → List ℕ → Ran
+run answers t xs bytes =
+    let R = played answers (roomOf t) [] (stepsOf xs) in
+    through (1 unless whole t ∷ 8 unless wholeSteps xs ∷ 9 unless leb (stepCount xs) (length bytes) ∷ [])
+    (λ k. record { number = k; n = 0; table = t; verdictBytes = bytes })
+    (record {
+      number = 0;
+      n = length R;
+      table = over (flat R) t;
+      verdictBytes = over (verdicts answers (roomOf t) [] (stepsOf xs)) bytes;
+    })
