@@ -1,5 +1,5 @@
 -- The outsider's messages: from what a step gives, and document 01's defaults for what it does not. R is the record, ks what the code's
--- row calls the six arguments, xs the arguments. What a row neither gives nor builds from is not used by its kind.
+-- row calls the six arguments, xs the arguments.
 use Prim.Native.Nat.{ℕ}
 use mathlib.Core.Bool.{Bool, false, _||_, cond}
 use mathlib.Core.List.{List, [], _∷_}
@@ -82,8 +82,9 @@ module _ (R : Record) (ks : List Argument) (xs : List ℕ) where
       cond (eqb (given Argument.a ks xs) 0) (record { 0 = 0 })
       (slipIn (messageAt R (record { 0 = given Argument.a ks xs })) .account)
 
+  -- r: every row that builds a hashed account or a slip has one
   abbrev pub drawn : Drawn
-  drawn = drawnIn (copied Item.r)
+  drawn = itemOr Item.r drawnIn (record { drawer = noBuyer; draw = 0 })
 
   -- without B, the buyer is the owner of a
   abbrev pub buyer : Buyer
