@@ -1,17 +1,17 @@
 -- The flat table and the list of pieces that is cut from it: the one bridge between code, which has the table, and definitions, which
 -- speak of the list.
 use mathlib.Core.Bool.{Bool, _&&_}
-use mathlib.Core.List.{List, [], _∷_, _++_}
-use mathlib.Core.Path.{_≡_, _∙_, refl, sym, ap}
+use mathlib.Core.List.{List, [], _∷_, _++_, append-assoc}
+use mathlib.Core.Path.{_≡_, _∙_, refl, sym, ap, ap₂}
 use Prim.Native.Nat.{ℕ, zero, suc, _+_, _*_, _-_, _≤_, _<_}
 use native.Mathlib.Nat.{add-comm, le-of-suc-le-suc, not-suc-le-zero, suc-mul, zero-mul}
 use native.Mathlib.Numerals.{add-one}
 use native.Mathlib.Omega.{arith}
-use lib.ListN.{drop, getD, length, length-drop, length-take, take}
-use lib.Seq.{drop-at, drop-append-le, drop-cons, drop-drop, take-append-le, take-at}
+use lib.ListN.{drop, getD, length, length-drop, length-take, take, take-append-drop}
+use lib.Seq.{drop-append-le, drop-cons, drop-drop, length-take-le, take-append-le, take-at}
 use Rattle.record.specs.Layout.{messageWidth}
 use Rattle.record.specs.Parts.{Message}
-use Rattle.record.specs.Table.{cut, messageAt, messageIn, messages}
+use Rattle.record.specs.Table.{cut, messageAt, messageIn, messages, withMessage}
 use Rattle.record.specs.Tests.{all}
 use Rattle.record.specs.declared.parts.Place.{Place}
 
@@ -42,3 +42,32 @@ pub part : (a w : ℕ) (t : List ℕ) → a + w ≤ length t
 part a w t h =
     let e : a + w - a ≡ w = omega arith in
     (ap (λ (k : ℕ). take k (drop a t)) e, simp (length-take, length-drop) (omega arith))
+
+-- the front of a table decides its first pieces
+cut-front : (w n : ℕ) (xs ys : List ℕ) → length xs ≡ n * w → cut w n (xs ++ ys) ≡ cut w n xs
+cut-front w zero xs ys e = refl
+cut-front w (suc n) xs ys e =
+    let l : w ≤ length xs = omega (arith, suc-mul n w) in
+    ap₂ (λ (a : List ℕ) (b : List (List ℕ)). a ∷ b) (take-append-le w xs ys l)
+    (ap (cut w n) (drop-append-le w xs ys l) ∙ cut-front w n (drop w xs) ys (length-drop w xs ∙ omega (arith, suc-mul n w)))
+
+-- the pieces of a front that is as long as they are, and one piece after it
+cut-more : (w n : ℕ) (xs m ys : List ℕ) → length xs ≡ n * w → length m ≡ w → cut w (suc n) (xs ++ m ++ ys) ≡ cut w n xs ++ (m ∷ [])
+cut-more w zero [] m ys e l = ap (λ (a : List ℕ). a ∷ []) (take-at m ys w l)
+cut-more w zero (x ∷ xs) m ys e l = absurd (omega (arith, zero-mul w))
+cut-more w (suc n) xs m ys e l =
+    let k : w ≤ length xs = omega (arith, suc-mul n w) in
+    ap₂ (λ (a : List ℕ) (b : List (List ℕ)). a ∷ b)
+    (ap (take w) (append-assoc xs m ys) ∙ take-append-le w xs (m ++ ys) k)
+    (ap (cut w (suc n)) (ap (drop w) (append-assoc xs m ys) ∙ drop-append-le w xs (m ++ ys) k ∙ sym (append-assoc (drop w xs) m ys))
+    ∙ cut-more w n (drop w xs) m ys (length-drop w xs ∙ omega (arith, suc-mul n w)) l)
+
+-- a message written after n makes the list of messages one longer at its end
+pub messages-with : (n : ℕ) (t : List ℕ) (m : Message) → n * messageWidth ≤ length t → length m ≡ messageWidth
+    → messages (suc n) (withMessage n t m) ≡ messages n t ++ (m ∷ [])
+messages-with n t m h l =
+    let k : length (take (n * messageWidth) t) ≡ n * messageWidth = length-take-le (n * messageWidth) t h in
+    cut-more messageWidth n (take (n * messageWidth) t) m (drop (n * messageWidth + messageWidth) t) k l
+    ∙ ap (λ (R : List Message). R ++ (m ∷ []))
+    (sym (cut-front messageWidth n (take (n * messageWidth) t) (drop (n * messageWidth) t) k)
+    ∙ ap (messages n) (take-append-drop (n * messageWidth) t))

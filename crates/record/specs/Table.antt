@@ -1,5 +1,5 @@
 -- The record: a flat table of numbers, and the list of messages that is cut from it.
-use Prim.Native.Nat.{ℕ, zero, suc, _*_, _-_, _/_, _%_}
+use Prim.Native.Nat.{ℕ, zero, suc, _*_, _+_, _-_, _/_, _%_}
 use mathlib.Core.Bool.{Bool, _&&_}
 use mathlib.Core.List.{List, [], _∷_, _++_}
 use lib.Dec.{eqb, leb}
@@ -27,6 +27,10 @@ messageAt R p = getD R (p .0 - 1) []
 
 abbrev pub messageIn : List ℕ → Place → Message
 messageIn t p = take messageWidth (drop ((p .0 - 1) * messageWidth) t)
+
+-- the table with a message in the place after n
+abbrev pub withMessage : ℕ → List ℕ → Message → List ℕ
+withMessage n t m = take (n * messageWidth) t ++ m ++ drop (n * messageWidth + messageWidth) t
 
 -- room for at most 512 messages
 abbrev pub mostRoom : ℕ

@@ -3,10 +3,10 @@ use crate::lawful::is_lawful;
 use crate::layout::MESSAGE_WIDTH;
 use crate::parts::Place;
 ghost use mathlib.Core.Path.{_≡_};
-ghost use Prim.Native.Nat.{_*_, _≤_};
+ghost use Prim.Native.Nat.{_*_, _+_, _≤_};
 ghost use lib.ListN.{length};
 ghost use Rattle.record.specs.Layout.{messageWidth};
-ghost use Rattle.record.specs.Table.{lawfulRecord, messageIn, roomOf, whole};
+ghost use Rattle.record.specs.Table.{lawfulRecord, messageIn, roomOf, whole, withMessage};
 
 pub const MOST_ROOM: usize = 512;
 
@@ -55,4 +55,17 @@ pub fn is_lawful_record(t: &[u16], n: usize) -> bool
         i += 1;
     }
     true
+}
+
+// A message written into the place after n.
+pub fn write(t: &mut [u16], n: usize, m: &[u16])
+    requires { ⌜ (n * messageWidth + messageWidth ≤ length (now t)) × (length (now m) ≡ messageWidth) ⌝ }
+    ensures { λ _. ⌜ now (t .exit) ≡ withMessage n (now (t .entry)) (now (m .entry)) ⌝ }
+{
+    let from = n * MESSAGE_WIDTH;
+    let mut i = 0;
+    while i < MESSAGE_WIDTH {
+        t[from + i] = m[i];
+        i += 1;
+    }
 }

@@ -1,15 +1,15 @@
 -- `in_row` meets its contract. The loop's invariant: what is left of the row and of the message fits exactly if the whole does.
-use Prim.Native.Nat.{ℕ, _≤_, _<_, _-_, _+_, _*_}
+use Prim.Native.Nat.{_*_, _+_, _-_, _<_, _≤_, ℕ}
 use borrow.Author.Needs.{needs}
 use lib.ListN.{drop, drop-of-length-le, getD, length}
-use mathlib.Core.Bool.{Bool, true, false, _&&_}
+use mathlib.Core.Bool.{Bool, _&&_, false, true}
 use mathlib.Core.List.{List, [], map}
-use mathlib.Core.Path.{_≡_, _∙_, refl, sym, ap, ap₂, subst}
+use mathlib.Core.Path.{_∙_, _≡_, ap, ap₂, refl, subst, sym}
 use native.Mathlib.Nat.{le-of-eq}
 use native.Mathlib.Omega.{arith}
 use Rattle.record.proofs.Chain.{goes-on, leaves}
 use Rattle.record.proofs.Rows.{Even, even-at, fits-from, flat, numbered}
-use Rattle.record.specs.Lawful.{Range, fits, kindRanges, letter, rangeLettered, unused, kinds, buyers, sellers, gateways, accounts, draws, codes, within}
+use Rattle.record.specs.Lawful.{Range, accounts, buyers, codes, draws, fits, gateways, kindRanges, kinds, letter, rangeLettered, sellers, unused, within}
 use Rattle.record.specs.Layout.{messageWidth}
 use Rattle.record.proofs.lawful.in_row.Statement.{statement}
 use Rattle.record.proofs.lawful.in_row.Tie as tie

@@ -1,6 +1,6 @@
 use borrow.Author.Tests.{eq-eqb, ne-eqb}
 use mathlib.Core.Path.{refl}
-use Rattle.record.proofs.Chain.{skip, stop, last}
+use Rattle.record.proofs.Chain.{last, skip, stop}
 use Rattle.record.proofs.parts.same_drawn.Statement.{statement}
 use Rattle.record.proofs.parts.same_drawn.Tie as tie
 

@@ -1,5 +1,5 @@
 use borrow.Author.Needs.{needs}
-use borrow.Author.Tests.{not-true, not-false}
+use borrow.Author.Tests.{not-false, not-true}
 use mathlib.Core.List.{[], _∷_}
 use mathlib.Core.Path.{_∙_, refl, sym}
 use Rattle.record.proofs.Chain.{last, same-parts, skip, stop}

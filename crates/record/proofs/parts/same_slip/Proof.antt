@@ -1,9 +1,9 @@
 use Prim.Native.Nat.{ℕ}
 use borrow.Author.Needs.{needs}
-use borrow.Author.Tests.{eq-eqb, ne-eqb, not-true, not-false}
+use borrow.Author.Tests.{eq-eqb, ne-eqb, not-false, not-true}
 use mathlib.Core.Bool.{Bool, _&&_}
 use mathlib.Core.List.{List, _∷_}
-use mathlib.Core.Path.{_≡_, _∙_, refl, sym}
+use mathlib.Core.Path.{_∙_, _≡_, refl, sym}
 use Rattle.record.proofs.Chain.{same-parts, skip, stop}
 use Rattle.record.specs.Parts.{drawnNumbers, markNumbers, sameMark, sameSlip}
 use Rattle.record.specs.Tests.{same}
