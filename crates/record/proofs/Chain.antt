@@ -17,6 +17,15 @@ stop b p = subst (λ (x : Bool). false ≡ (x && b)) (sym p) refl
 pub last : {a r : Bool} → r ≡ a → r ≡ (a && true)
 last {a} p = p ∙ sym (and-true a)
 
+-- both of two tests that passed together
+pub left-of : (a b : Bool) → (a && b) ≡ true → a ≡ true
+left-of true b e = refl
+left-of false b e = e
+
+pub right-of : (a b : Bool) → (a && b) ≡ true → b ≡ true
+right-of true b e = e
+right-of false b e = absurd (false≢true e)
+
 -- two lists are compared part by part
 pub same-parts : (xs us ys vs : List ℕ) → length xs ≡ length us → same (xs ++ ys) (us ++ vs) ≡ (same xs us && same ys vs)
 same-parts [] [] ys vs e = refl

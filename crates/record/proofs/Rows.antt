@@ -3,6 +3,10 @@ use mathlib.Core.Bool.{Bool, true, _&&_}
 use mathlib.Core.List.{List, [], _∷_, _++_, map}
 use mathlib.Core.Path.{_≡_, _∙_, refl, sym, ap, ap₂, subst}
 use Prim.Native.Nat.{ℕ, zero, suc, _+_, _*_, _<_}
+use borrow.Author.Tests.{eqb-true}
+use lib.Dec.{eqb}
+use Rattle.record.specs.Tests.{all}
+use Rattle.record.proofs.Chain.{left-of, right-of}
 use native.Mathlib.Nat.{zero-add, add-assoc, suc-mul, zero-mul, not-suc-le-zero, le-of-suc-le-suc, add-comm}
 use native.Mathlib.Numerals.{add-one}
 use lib.ListN.{List·getD-append, List·getD-map, drop, getD, length}
@@ -15,21 +19,27 @@ flat [] = []
 flat (r ∷ rs) = r ++ flat rs
 
 -- every row has w entries
-abbrev pub Even : {A : Type 0} → ℕ → List (List A) → Type 0
-Even w [] = Unit {0}
-Even w (r ∷ rs) = (length r ≡ w) × Even w rs
+abbrev pub even : {A : Type 0} → ℕ → List (List A) → Bool
+even w rows = all (λ (r : List _). eqb (length r) w) rows
 
-pub flat-at : {A : Type 0} (w : ℕ) (rows : List (List A)) (d : A) → Even w rows → (k i : ℕ) → k < length rows → i < w
-    → getD (flat rows) (k * w + i) d ≡ getD (getD rows k []) i d
-flat-at w [] d e k i h l = absurd (not-suc-le-zero h)
-flat-at w (r ∷ rs) d e zero i h l =
+pub even-at : {A : Type 0} (w : ℕ) (rows : List (List A)) (d : List A) → even w rows ≡ true → (k : ℕ) → k < length rows → length (getD rows k d) ≡ w
+even-at w [] d e k h = absurd (not-suc-le-zero h)
+even-at w (r ∷ rs) d e zero h = eqb-true _ _ (left-of _ _ e)
+even-at w (r ∷ rs) d e (suc k) h = even-at w rs d (right-of (eqb (length r) w) _ e) k (le-of-suc-le-suc h)
+
+pub flat-at : {A : Type 0} (w : ℕ) (rows : List (List A)) (d : A) (ds : List A) → even w rows ≡ true → (k i : ℕ) → k < length rows → i < w
+    → getD (flat rows) (k * w + i) d ≡ getD (getD rows k ds) i d
+flat-at w [] d ds e k i h l = absurd (not-suc-le-zero h)
+flat-at w (r ∷ rs) d ds e zero i h l =
+    let long : length r ≡ w = eqb-true _ _ (left-of _ _ e) in
     ap (λ (n : ℕ). getD (r ++ flat rs) n d) (ap (_+ i) (zero-mul w) ∙ zero-add i)
-    ∙ List·getD-append r (flat rs) d i (subst (λ (n : ℕ). i < n) (sym (e .0)) l)
-flat-at w (r ∷ rs) d e (suc k) i h l =
+    ∙ List·getD-append r (flat rs) d i (subst (λ (n : ℕ). i < n) (sym long) l)
+flat-at w (r ∷ rs) d ds e (suc k) i h l =
+    let long : length r ≡ w = eqb-true _ _ (left-of _ _ e) in
     ap (λ (n : ℕ). getD (r ++ flat rs) n d)
-    (ap (_+ i) (suc-mul k w ∙ add-comm (k * w) w) ∙ add-assoc w (k * w) i ∙ ap (_+ (k * w + i)) (sym (e .0)))
+    (ap (_+ i) (suc-mul k w ∙ add-comm (k * w) w) ∙ add-assoc w (k * w) i ∙ ap (_+ (k * w + i)) (sym long))
     ∙ getD-append-add r (flat rs) (k * w + i) d
-    ∙ flat-at w rs d (e .1) k i (le-of-suc-le-suc h) l
+    ∙ flat-at w rs d ds (right-of (eqb (length r) w) _ e) k i (le-of-suc-le-suc h) l
 
 -- one position further: the number there, and the rest
 pub fits-from : (rs : List Range) (xs : List ℕ) (i : ℕ) → i < length rs → i < length xs
@@ -38,11 +48,6 @@ fits-from rs xs i h l =
     ap₂ fits (drop-cons rs i unused h) (drop-cons xs i 0 l)
     ∙ ap (λ (k : ℕ). within (getD rs i unused) (getD xs i 0) && fits (drop k rs) (drop k xs)) (sym (add-one i))
 
-pub even-at : {A : Type 0} (w : ℕ) (rows : List (List A)) → Even w rows → (k : ℕ) → k < length rows → length (getD rows k []) ≡ w
-even-at w [] e k h = absurd (not-suc-le-zero h)
-even-at w (r ∷ rs) e zero h = e .0
-even-at w (r ∷ rs) e (suc k) h = even-at w rs (e .1) k (le-of-suc-le-suc h)
-
 -- inside a list the default does not matter
 getD-any : {A : Type 0} (l : List A) (k : ℕ) (d d′ : A) → k < length l → getD l k d ≡ getD l k d′
 getD-any [] k d d′ h = absurd (not-suc-le-zero h)
@@ -50,10 +55,10 @@ getD-any (x ∷ l) zero d d′ h = refl
 getD-any (x ∷ l) (suc k) d d′ h = getD-any l k d d′ (le-of-suc-le-suc h)
 
 -- a table of numbers that stands for rows of data: entry i of row k is the number of that entry
-pub numbered : {A : Type 0} (number : A → ℕ) (w : ℕ) (rows : List (List A)) (d : A) → Even w rows → (k i : ℕ) → k < length rows → i < w
+pub numbered : {A : Type 0} (number : A → ℕ) (w : ℕ) (rows : List (List A)) (d : A) (ds : List A) → even w rows ≡ true → (k i : ℕ) → k < length rows → i < w
     → k * w + i < length (map number (flat rows))
-    → getD (map number (flat rows)) (k * w + i) 0 ≡ number (getD (getD rows k []) i d)
-numbered number w rows d e k i h l b =
+    → getD (map number (flat rows)) (k * w + i) 0 ≡ number (getD (getD rows k ds) i d)
+numbered number w rows d ds e k i h l b =
     getD-any (map number (flat rows)) (k * w + i) 0 (number d) b
     ∙ List·getD-map number (flat rows) (k * w + i) d
-    ∙ ap number (flat-at w rows d e k i h l)
+    ∙ ap number (flat-at w rows d ds e k i h l)

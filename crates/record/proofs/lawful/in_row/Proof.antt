@@ -8,7 +8,7 @@ use mathlib.Core.Path.{_∙_, _≡_, ap, ap₂, refl, subst, sym}
 use native.Mathlib.Nat.{le-of-eq}
 use native.Mathlib.Omega.{arith}
 use Rattle.record.proofs.Chain.{goes-on, leaves}
-use Rattle.record.proofs.Rows.{Even, even-at, fits-from, flat, numbered}
+use Rattle.record.proofs.Rows.{even, even-at, fits-from, flat, numbered}
 use Rattle.record.specs.Lawful.{Range, accounts, buyers, codes, draws, fits, gateways, kindRanges, kinds, letter, rangeLettered, sellers, unused, within}
 use Rattle.record.specs.Layout.{messageWidth}
 use Rattle.record.proofs.lawful.in_row.Statement.{statement}
@@ -17,8 +17,8 @@ use Rattle.record.proofs.lawful.in_row.Tie as tie
 row-of : ℕ → List Range
 row-of k = getD kindRanges k []
 
-even : Even messageWidth kindRanges
-even = (refl, (refl, (refl, (refl, (refl, tt)))))
+rows-even : even messageWidth kindRanges ≡ true
+rows-even = refl
 
 lettered : (g : Range) → rangeLettered (letter g) ≡ g
 lettered unused = refl
@@ -36,18 +36,18 @@ turn : (k i : ℕ) (m : List ℕ) (r : Bool) → k < 5 → i < messageWidth → 
     → fits (drop i (row-of k)) (drop i m) ≡ (r && fits (drop (i + 1) (row-of k)) (drop (i + 1) m))
 unfolding row-of
 turn k i m r h l e p =
-    fits-from (row-of k) m i (subst (λ (n : ℕ). i < n) (sym (even-at messageWidth kindRanges even k h)) l) (omega arith)
+    fits-from (row-of k) m i (subst (λ (n : ℕ). i < n) (sym (even-at messageWidth kindRanges [] rows-even k h)) l) (omega arith)
     ∙ ap (λ (b : Bool). b && fits (drop (i + 1) (row-of k)) (drop (i + 1) m))
     (sym (p
     ∙ ap (λ (g : Range). within g (getD m i 0))
-    (ap rangeLettered (numbered letter messageWidth kindRanges unused even k i h l (omega arith)) ∙ lettered (getD (row-of k) i unused))))
+    (ap rangeLettered (numbered letter messageWidth kindRanges unused [] rows-even k i h l (omega arith)) ∙ lettered (getD (row-of k) i unused))))
 
 -- past the last position nothing is left
 over : (k i : ℕ) (m : List ℕ) → k < 5 → i ≡ messageWidth → length m ≡ messageWidth → fits (drop i (row-of k)) (drop i m) ≡ true
 unfolding row-of
 over k i m h e l =
     ap₂ fits
-    (drop-of-length-le (row-of k) (le-of-eq (even-at messageWidth kindRanges even k h ∙ sym e)))
+    (drop-of-length-le (row-of k) (le-of-eq (even-at messageWidth kindRanges [] rows-even k h ∙ sym e)))
     (drop-of-length-le m (le-of-eq (l ∙ sym e)))
 
 abbrev Inv-loop : tie.InvT-loop

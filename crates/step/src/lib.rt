@@ -1,0 +1,4 @@
+// One step against a record: demand 2 of the approvals office.
+pub mod arguments;
+pub mod faults;
+pub mod items;
