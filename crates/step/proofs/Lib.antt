@@ -1,2 +1,3 @@
+pub mod Lowest
 pub mod Picks
 pub mod Takes
