@@ -1,5 +1,6 @@
 // Where the parts of each kind of message stand. A position is the sum of the widths before it, so that a wider part moves
 // all that follows.
+use crate::parts::DRAWN_WIDTH;
 use crate::parts::MARK_WIDTH;
 use crate::parts::SLIP_WIDTH;
 use crate::signed::BUYER_SIGNED_WIDTH;
@@ -27,6 +28,11 @@ pub const DESTINATION: usize = 3;
 // The first part after that: an Initiate's hashed account, an Invoice's or an Auth-Request's mark, a Payment's slip, an
 // Auth-Response's code.
 pub const BODY: usize = 4;
+
+// An Initiate's account, and the buyer of an Invoice's or an Auth-Request's mark.
+pub const INITIATE_ACCOUNT: usize = BODY + DRAWN_WIDTH;
+
+pub const MARK_BUYER: usize = BODY + 1;
 
 pub const INVOICE_SIGNED: usize = BODY + MARK_WIDTH;
 

@@ -1,3 +1,4 @@
+pub mod Claims
 pub mod Lowest
 pub mod Picks
 pub mod Takes

@@ -1,4 +1,5 @@
 // One step against a record: demand 2 of the approvals office.
 pub mod arguments;
 pub mod faults;
+pub mod honest;
 pub mod items;

@@ -1,0 +1,13 @@
+use borrow.Author.Needs.{needs}
+use Rattle.record.specs.Layout.{destination}
+use Rattle.record.specs.Parts.{sellerAt}
+use Rattle.step.proofs.honest.order_mark.Statement.{statement}
+use Rattle.step.proofs.honest.order_mark.Tie as tie
+
+returns : tie.Need-returns
+returns c =
+    let the-args = c .before .before .before .args in
+    λ i. record { seller = sellerAt (the-args .initiate .now) destination; buyer = the-args .buyer; hashed = c .before .hashed-at .ensures i }
+
+pub order-mark-spec : {M : Type 1} → statement M
+order-mark-spec = tie.close (tie.spec (λ c κs. search needs) (λ c. search needs) returns)
