@@ -1,4 +1,5 @@
 pub mod Claims
+pub mod Found
 pub mod Lowest
 pub mod Picks
 pub mod Takes

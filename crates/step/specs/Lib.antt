@@ -1,4 +1,5 @@
 pub mod Faults
 pub mod Given
 pub mod Letters
+pub mod Outside
 pub mod Ready
