@@ -1,3 +1,4 @@
+pub mod Draft
 pub mod Faults
 pub mod Given
 pub mod Letters

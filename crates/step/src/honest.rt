@@ -39,7 +39,7 @@ use record::signed::ReplySigned;
 use record::signed::RequestSigned;
 use record::signed::buyer_signed_at;
 ghost use mathlib.Core.Path.{_≡_};
-ghost use Prim.Native.Nat.{_≤_};
+ghost use Prim.Native.Nat.{_<_};
 ghost use lib.ListN.{length};
 ghost use Rattle.record.specs.Layout.{messageWidth};
 ghost use Rattle.record.specs.Tests.{all};
@@ -63,7 +63,7 @@ ghost use Rattle.rules.specs.Honest.{
 pub const HOUSE: u16 = 1;
 
 pub fn started(buyer: Buyer, seller: Seller, new: Place) -> [u16; MESSAGE_WIDTH]
-    requires { ⌜ new .0 ≤ 512 ⌝ }
+    requires { ⌜ new .0 < 65536 ⌝ }
     ensures { λ r. ⌜ r ≡ startedBy buyer seller new ⌝ }
 {
     let drawn = Drawn {
