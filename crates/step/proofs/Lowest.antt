@@ -78,7 +78,7 @@ borrowed n R x h =
     (sym (ne-eqb x 0 h))
 
 -- gates that two arguments pass or not: the lower number wins
-three : Bool → Bool → Bool → ℕ
+unfoldable pub three : Bool → Bool → Bool → ℕ
 three a b c = cond a (cond b (cond c 9 5) 4) 3
 
 lower : (a b c a′ b′ c′ : Bool) → three (a && a′) (b && b′) (c && c′) ≡ min (three a b c) (three a′ b′ c′)

@@ -1,3 +1,4 @@
+pub mod Answer
 pub mod Draft
 pub mod Faults
 pub mod Given

@@ -5,3 +5,4 @@ pub mod faults;
 pub mod forged;
 pub mod honest;
 pub mod items;
+pub mod judge;

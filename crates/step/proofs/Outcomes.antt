@@ -1,0 +1,151 @@
+-- What the code of a step found, put together to the step's outcome, gate by gate.
+use mathlib.Core.Bool.{Bool, true, false, _&&_, cond}
+use mathlib.Core.List.{List, [], _∷_, _++_}
+use mathlib.Core.Path.{_≡_, _∙_, refl, sym, ap, subst}
+use Prim.Native.Nat.{ℕ, _+_, _*_, _%_, _≤_}
+use native.Mathlib.Omega.{arith}
+use borrow.Author.Tests.{leb-true}
+use lib.Dec.{eqb, leb, ltb}
+use lib.ListN.{length}
+use Rattle.record.proofs.Chain.{left-of, right-of}
+use Rattle.record.proofs.Cut.{length-cut}
+use Rattle.record.specs.Layout.{messageWidth}
+use Rattle.record.specs.Parts.{Message}
+use Rattle.record.specs.Lawful.{lawful}
+use Rattle.record.specs.Table.{lawfulRecord, messages, mostRoom, roomOf, whole, withMessage}
+use Rattle.record.specs.Tests.{all}
+use Rattle.rules.specs.Codes.{known, rowOf}
+use Rattle.rules.specs.Honest.{holds}
+use Rattle.rules.specs.Items.{eachArgument, holding, inRange, placed}
+use Rattle.rules.specs.Step.{Outcome, accepted, added, argumentsOf, claims, codeOf, judge, judgeRow, judgeTable, refused}
+use Rattle.step.proofs.Lowest.{three}
+use Rattle.step.proofs.Picks.{no, yes}
+use Rattle.step.specs.Answer.{Answered}
+use Rattle.step.specs.Draft.{DraftOf, Drafted}
+use Rattle.step.specs.Faults.{faults}
+use Rattle.step.specs.Ready.{Known, Ready}
+use Rattle.step.specs.declared.drafts.Draft.{Draft}
+use Rattle.step.specs.declared.judge.Answer.{Answer}
+use Rattle.step.specs.declared.judge.Answer.the-variants.{Accepted, Refused}
+
+-- the answer by the outcome
+pub refuses : (n : ℕ) (t : List ℕ) {o : Outcome} {k : ℕ} → o ≡ refused k → Answered n t o (Refused k) t
+refuses n t {o} {k} e =
+    subst (λ (x : Outcome). Answered n t x (Refused k) t) (sym e) (record { number = refl; place = refl; table = refl })
+
+pub accepts : (n : ℕ) (t : List ℕ) {o : Outcome} (m : Message) {left : List ℕ} → o ≡ accepted m → left ≡ withMessage n t m
+    → Answered n t o (Accepted (record { 0 = n + 1 })) left
+accepts n t m {left} e p =
+    subst (λ (x : Outcome). Answered n t x (Accepted (record { 0 = n + 1 })) left) (sym e) (record { number = refl; place = refl; table = p })
+
+-- three gates: a number is given by the first that is shut, and 9 only where all stand open
+shut : (a b c : Bool) (o : Outcome) → (three a b c ≡ 9 → ⊥)
+    → cond a (cond b (cond c o (refused 5)) (refused 4)) (refused 3) ≡ refused (three a b c)
+unfolding three
+shut false b c o h = refl
+shut true false c o h = refl
+shut true true false o h = refl
+shut true true true o h = absurd (h refl)
+
+all-open : (a b c : Bool) → three a b c ≡ 9 → (a ≡ true) × (b ≡ true) × (c ≡ true)
+unfolding three
+all-open false b c e = absurd (omega arith)
+all-open true false c e = absurd (omega arith)
+all-open true true false e = absurd (omega arith)
+all-open true true true e = (refl, refl, refl)
+
+-- a whole table has room for at most 512
+pub most : (t : List ℕ) → whole t ≡ true → length t ≤ mostRoom * messageWidth
+most t e = leb-true _ _ (right-of (eqb (length t % messageWidth) 0) (leb (length t) (mostRoom * messageWidth)) e)
+
+module _ (answers n : ℕ) (t s : List ℕ) where
+  ranged : Bool
+  ranged = eachArgument inRange (rowOf (codeOf s) .takes) (argumentsOf s)
+
+  placedIn : ℕ → Bool
+  placedIn k = eachArgument (placed k) (rowOf (codeOf s) .takes) (argumentsOf s)
+
+  held : Bool
+  held = eachArgument (holding (messages n t)) (rowOf (codeOf s) .takes) (argumentsOf s)
+
+  claimed : Bool
+  claimed = all holds (claims (messages n t) (rowOf (codeOf s) .takes) (argumentsOf s) (rowOf (codeOf s) .deed))
+
+  message : Message
+  message = added (messages n t) (rowOf (codeOf s) .takes) (argumentsOf s) answers (rowOf (codeOf s) .deed)
+
+  -- gates 6 and 7
+  rest : Outcome
+  rest = cond claimed (cond (ltb n (roomOf t)) (accepted message) (refused 7)) (refused 6)
+
+  outcome : Outcome
+  outcome = judge answers (roomOf t) (messages n t) s
+
+  unfolded : outcome ≡ cond (known (codeOf s)) (cond ranged (cond (placedIn n) (cond held rest (refused 5)) (refused 4)) (refused 3)) (refused 2)
+  unfolding outcome judge judgeRow ranged placedIn held claimed message rest
+  unfolded =
+      ap
+      (λ (k : ℕ). cond (known (codeOf s))
+      (cond ranged
+      (cond (placedIn k)
+      (cond held (cond claimed (cond (ltb k (roomOf t)) (accepted message) (refused 7)) (refused 6)) (refused 5))
+      (refused 4))
+      (refused 3))
+      (refused 2))
+      (length-cut messageWidth n t)
+
+  pub unknown : known (codeOf s) ≡ false → judge answers (roomOf t) (messages n t) s ≡ refused 2
+  unfolding outcome
+  unknown e = unfolded ∙ sym (no _ e refl)
+
+  module _ (k : known (codeOf s) ≡ true) where
+    pub faulty : (f : ℕ) → f ≡ faults n (messages n t) (rowOf (codeOf s) .takes) (argumentsOf s) → (f ≡ 9 → ⊥)
+        → judge answers (roomOf t) (messages n t) s ≡ refused f
+    unfolding outcome ranged placedIn held three
+    faulty f e h =
+        unfolded ∙ sym (yes _ k refl)
+        ∙ shut ranged (placedIn n) held rest (λ (z : three ranged (placedIn n) held ≡ 9). h (e ∙ z))
+        ∙ ap refused (sym e)
+
+    module _ (fine : 9 ≡ faults n (messages n t) (rowOf (codeOf s) .takes) (argumentsOf s)) where
+      opened : (ranged ≡ true) × (placedIn n ≡ true) × (held ≡ true)
+      unfolding ranged placedIn held three
+      opened = all-open ranged (placedIn n) held (sym fine)
+
+      pub ready : Known s → n * messageWidth ≤ length t → Ready n t s
+      unfolding placedIn
+      ready w h = record { known = w; room = h; places = opened .1 }
+
+      past-arguments : judge answers (roomOf t) (messages n t) s ≡ rest
+      unfolding outcome
+      past-arguments =
+          unfolded ∙ sym (yes _ k refl) ∙ sym (yes _ (opened .0) refl) ∙ sym (yes _ (opened .1) refl) ∙ sym (yes _ (opened .2) refl)
+
+      module _ (d : Draft) (draft : Drafted answers n t s d) where
+        pub not-allowed : d .allowed ≡ false → judge answers (roomOf t) (messages n t) s ≡ refused 6
+        unfolding rest claimed
+        not-allowed e = past-arguments ∙ sym (no _ (sym (draft .allowed) ∙ e) refl)
+
+        pub full : d .allowed ≡ true → ltb n (roomOf t) ≡ false → judge answers (roomOf t) (messages n t) s ≡ refused 7
+        unfolding rest claimed
+        full e h = past-arguments ∙ sym (yes _ (sym (draft .allowed) ∙ e) refl) ∙ sym (no _ h refl)
+
+        pub taken : d .allowed ≡ true → ltb n (roomOf t) ≡ true → judge answers (roomOf t) (messages n t) s ≡ accepted (d .message)
+        unfolding rest claimed message
+        taken e h =
+            past-arguments ∙ sym (yes _ (sym (draft .allowed) ∙ e) refl) ∙ sym (yes _ h refl) ∙ ap accepted (sym (draft .message e))
+
+-- with refusal 1 in front
+pub unlawful : (answers n : ℕ) (t s : List ℕ) → lawfulRecord n t ≡ false → judgeTable answers n t s ≡ refused 1
+unfolding judgeTable
+unlawful answers n t s e = sym (no _ e refl)
+
+pub lawful-judged : (answers n : ℕ) (t s : List ℕ) → lawfulRecord n t ≡ true → judge answers (roomOf t) (messages n t) s ≡ judgeTable answers n t s
+unfolding judgeTable
+lawful-judged answers n t s e = yes _ e refl
+
+pub lawful-whole : (n : ℕ) (t : List ℕ) → lawfulRecord n t ≡ true → whole t ≡ true
+lawful-whole n t e = left-of (whole t) _ e
+
+pub lawful-room : (n : ℕ) (t : List ℕ) → lawfulRecord n t ≡ true → n ≤ roomOf t
+lawful-room n t e = leb-true _ _ (left-of (leb n (roomOf t)) _ (right-of (whole t) (leb n (roomOf t) && all lawful (messages n t)) e))
