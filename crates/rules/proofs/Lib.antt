@@ -1,1 +1,5 @@
+pub mod Accepted
+pub mod Arguments
 pub mod Lists
+pub mod Reached
+pub mod Tests

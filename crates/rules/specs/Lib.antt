@@ -1,9 +1,11 @@
+pub mod Agreed
 pub mod Codes
 pub mod Forged
 pub mod Gates
 pub mod Honest
 pub mod Items
 pub mod Lists
+pub mod Reached
 pub mod Report
 pub mod Run
 pub mod Step

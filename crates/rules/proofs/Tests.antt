@@ -1,0 +1,65 @@
+-- Laws of the tests that the definitions are made of: what a chain, a test of each element and a comparison say when they pass,
+-- and when they pass.
+use mathlib.Core.Bool.{Bool, true, false, cond, _&&_, _||_, false≢true}
+use mathlib.Core.List.{List, [], _∷_, _++_, List·Memᴰ, List·Memᴰ·head, List·Memᴰ·tail, List·Memᴰ·cases-cons, List·Memᴰ·not-nil}
+use mathlib.Core.Logic.{_⊎_, inl, inr, ⊎-elim}
+use mathlib.Core.Path.{_≡_, _∙_, refl, sym, ap, ap₂, subst}
+use Prim.Native.Nat.{ℕ, zero, suc, _<_}
+use borrow.Author.Tests.{eq-eqb, eqb-true}
+use lib.Dec.{eqb}
+use lib.ListN.{getD, length}
+use native.Mathlib.Nat.{le-of-suc-le-suc, not-suc-le-zero}
+use Rattle.record.specs.Tests.{all, same}
+
+-- both, and its two halves
+pub both : {a b : Bool} → a ≡ true → b ≡ true → (a && b) ≡ true
+both {a} {b} p q = ap₂ (λ (x y : Bool). x && y) p q
+
+pub first : (a b : Bool) → (a && b) ≡ true → a ≡ true
+first true b e = refl
+first false b e = absurd (false≢true e)
+
+pub second : (a b : Bool) → (a && b) ≡ true → b ≡ true
+second true b e = e
+second false b e = absurd (false≢true e)
+
+pub either : (a b : Bool) → (a || b) ≡ true → (a ≡ true) ⊎ (b ≡ true)
+either true b e = inl refl
+either false b e = inr e
+
+-- what holds of both branches
+pub picked : {A : Type 0} (P : A → Type 0) (b : Bool) (x y : A) → (b ≡ true → P x) → (b ≡ false → P y) → P (cond b x y)
+picked P true x y yes′ no′ = yes′ refl
+picked P false x y yes′ no′ = no′ refl
+
+-- a test of each element of a written list, taken apart and put together
+abbrev pub Each : {A : Type 0} → (A → Bool) → List A → Type 0
+Each f [] = Unit {0}
+Each f (x ∷ xs) = (f x ≡ true) × Each f xs
+
+pub each : {A : Type 0} (f : A → Bool) (xs : List A) → all f xs ≡ true → Each f xs
+each f [] e = tt
+each f (x ∷ xs) e = (first (f x) (all f xs) e, each f xs (second (f x) (all f xs) e))
+
+pub each-all : {A : Type 0} (f : A → Bool) (xs : List A) → Each f xs → all f xs ≡ true
+each-all f [] e = refl
+each-all f (x ∷ xs) e = both (e .0) (each-all f xs (e .1))
+
+pub all-append : {A : Type 0} (f : A → Bool) (xs ys : List A) → all f xs ≡ true → all f ys ≡ true → all f (xs ++ ys) ≡ true
+all-append f [] ys p q = q
+all-append f (x ∷ xs) ys p q = both (first (f x) (all f xs) p) (all-append f xs ys (second (f x) (all f xs) p) q)
+
+-- the same numbers are the same list
+pub same-eq : (xs ys : List ℕ) → same xs ys ≡ true → xs ≡ ys
+same-eq [] [] e = refl
+same-eq [] (y ∷ ys) e = absurd (false≢true e)
+same-eq (x ∷ xs) [] e = absurd (false≢true e)
+same-eq (x ∷ xs) (y ∷ ys) e =
+    ap₂ _∷_ (eqb-true x y (first (eqb x y) (same xs ys) e)) (same-eq xs ys (second (eqb x y) (same xs ys) e))
+
+pub same-refl : (xs : List ℕ) → same xs xs ≡ true
+same-refl [] = refl
+same-refl (x ∷ xs) = both (eq-eqb x x refl) (same-refl xs)
+
+pub eq-same : {xs ys : List ℕ} → xs ≡ ys → same xs ys ≡ true
+eq-same {xs} e = subst (λ (zs : List ℕ). same xs zs ≡ true) e (same-refl xs)
