@@ -1,5 +1,10 @@
 pub mod Accepted
+pub mod Agreement
 pub mod Arguments
+pub mod Claims
+pub mod Deeds
+pub mod Laid
 pub mod Lists
 pub mod Reached
 pub mod Tests
+pub mod Vouched

@@ -1,6 +1,6 @@
 -- Laws of the tests that the definitions are made of: what a chain, a test of each element and a comparison say when they pass,
 -- and when they pass.
-use mathlib.Core.Bool.{Bool, true, false, cond, _&&_, _||_, false≢true}
+use mathlib.Core.Bool.{Bool, true, false, cond, _&&_, _||_, false≢true, true≢false}
 use mathlib.Core.List.{List, [], _∷_, _++_, List·Memᴰ, List·Memᴰ·head, List·Memᴰ·tail, List·Memᴰ·cases-cons, List·Memᴰ·not-nil}
 use mathlib.Core.Logic.{_⊎_, inl, inr, ⊎-elim}
 use mathlib.Core.Path.{_≡_, _∙_, refl, sym, ap, ap₂, subst}
@@ -26,6 +26,10 @@ second false b e = absurd (false≢true e)
 pub either : (a b : Bool) → (a || b) ≡ true → (a ≡ true) ⊎ (b ≡ true)
 either true b e = inl refl
 either false b e = inr e
+
+pub other : (a b : Bool) → (a || b) ≡ true → a ≡ false → b ≡ true
+other true b e f = absurd (true≢false f)
+other false b e f = e
 
 -- what holds of both branches
 pub picked : {A : Type 0} (P : A → Type 0) (b : Bool) (x y : A) → (b ≡ true → P x) → (b ≡ false → P y) → P (cond b x y)
