@@ -4,7 +4,9 @@ pub mod Arguments
 pub mod Claims
 pub mod Deeds
 pub mod Laid
+pub mod LawfulReached
 pub mod Lists
+pub mod Ranges
 pub mod Reached
 pub mod Tests
 pub mod Vouched

@@ -53,6 +53,11 @@ pub all-append : {A : Type 0} (f : A → Bool) (xs ys : List A) → all f xs ≡
 all-append f [] ys p q = q
 all-append f (x ∷ xs) ys p q = both (first (f x) (all f xs) p) (all-append f xs ys (second (f x) (all f xs) p) q)
 
+pub all-member : {A : Type 0} (f : A → Bool) (xs : List A) (x : A) → all f xs ≡ true → List·Memᴰ x xs → f x ≡ true
+all-member f [] x e m = absurd (List·Memᴰ·not-nil m)
+all-member f (y ∷ ys) x e m =
+    ⊎-elim (λ p. ap f p ∙ first (f y) (all f ys) e) (λ n. all-member f ys x (second (f y) (all f ys) e) n) (List·Memᴰ·cases-cons m)
+
 -- the same numbers are the same list
 pub same-eq : (xs ys : List ℕ) → same xs ys ≡ true → xs ≡ ys
 same-eq [] [] e = refl

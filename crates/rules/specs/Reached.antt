@@ -5,7 +5,7 @@ use mathlib.Core.List.{List, []}
 use mathlib.Core.Path.{_≡_}
 use lib.Dec.{eqb}
 use lib.ListN.{length}
-use Rattle.record.specs.Table.{Record}
+use Rattle.record.specs.Table.{Record, messages, roomOf, whole}
 use Rattle.record.specs.Tests.{all}
 use Rattle.rules.specs.Run.{played, stepWidth}
 use Rattle.rules.specs.Step.{Step}
@@ -19,3 +19,8 @@ pub record Reached (answers room : ℕ) (R : Record) : Type 0 where
   pub steps : List Step
   pub sevens : all seven steps ≡ true
   pub left : R ≡ played answers room [] steps
+
+-- a table whose first n places hold a reached record
+pub record HoldsReached (answers n : ℕ) (t : List ℕ) : Type 0 where
+  pub measured : whole t ≡ true
+  pub reached : Reached answers (roomOf t) (messages n t)
