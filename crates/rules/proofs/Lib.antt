@@ -8,5 +8,6 @@ pub mod LawfulReached
 pub mod Lists
 pub mod Ranges
 pub mod Reached
+pub mod Reports
 pub mod Tests
 pub mod Vouched

@@ -1,10 +1,12 @@
 -- What buyer and seller of a payment have agreed on when the house replies: the four messages of the payment stand in the record.
+use Prim.Native.Nat.{ℕ}
+use mathlib.Core.Bool.{cond}
 use mathlib.Core.List.{List·Memᴰ}
 use mathlib.Core.Path.{_≡_}
 use Rattle.record.specs.Parts.{Message}
 use Rattle.record.specs.Table.{Record}
 use Rattle.record.specs.declared.parts.Mark.{Mark}
-use Rattle.rules.specs.Report.{itsInitiate, itsInvoice, itsPayment, itsRequest}
+use Rattle.rules.specs.Report.{itsInitiate, itsInvoice, itsPayment, itsRequest, outside}
 
 -- a message stands in a record
 infix 40 _∈_
@@ -19,3 +21,7 @@ pub record Agreed (x : Mark) (R : Record) : Type 0 where
   pub invoice : itsInvoice x ∈ R
   pub payment : itsPayment x ∈ R
   pub request : itsRequest x ∈ R
+
+-- what is then reported of it: 21 if buyer and seller are both the outsider, else 20
+abbrev pub itsReport : Mark → ℕ
+itsReport x = cond (outside x) 21 20
