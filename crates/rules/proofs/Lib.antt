@@ -9,5 +9,6 @@ pub mod Lists
 pub mod Ranges
 pub mod Reached
 pub mod Reports
+pub mod Session
 pub mod Tests
 pub mod Vouched

@@ -8,4 +8,5 @@ pub mod Lists
 pub mod Reached
 pub mod Report
 pub mod Run
+pub mod Session
 pub mod Step
