@@ -9,6 +9,7 @@ pub mod Lists
 pub mod Ranges
 pub mod Reached
 pub mod Reports
+pub mod Runs
 pub mod Session
 pub mod Tests
 pub mod Vouched

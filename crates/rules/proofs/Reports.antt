@@ -72,14 +72,23 @@ its-not-22 : (x : Mark) → Not-22 (itsReport x)
 its-not-22 x = picked Not-22 (outside x) 21 20 (λ b e. omega arith) (λ b e. omega arith)
 
 module _ (answers n : ℕ) (t : List ℕ) (h : HoldsReached answers n t) where
-  reply-reported : (p : Place) → between 1 (p .0) n ≡ true → houseReply (messageAt (messages n t) p) ≡ true
-      → reportOn (take (p .0 - 1) (messages n t)) (replyMark (messageAt (messages n t) p)) ≡ itsReport (replyMark (messageAt (messages n t) p))
-  reply-reported p e =
+  below : (p : Place) → between 1 (p .0) n ≡ true → p .0 - 1 < length (messages n t)
+  below p e =
       let least = leb-true 1 (p .0) (first (leb 1 (p .0)) (leb (p .0) n) e) in
       let most = leb-true (p .0) n (second (leb 1 (p .0)) (leb (p .0) n) e) in
-      reported answers (roomOf t) (messages n t) (h .reached) (p .0 - 1) (omega (arith, length-cut messageWidth n t))
+      omega (arith, length-cut messageWidth n t)
 
-  -- of the reply at a place of a table that holds a reached record
+  -- agreement at a place of a table that holds a reached record
+  pub agreed-at : (p : Place) → between 1 (p .0) n ≡ true → houseReply (messageAt (messages n t) p) ≡ true
+      → outside (replyMark (messageAt (messages n t) p)) ≡ false
+      → Agreed (replyMark (messageAt (messages n t) p)) (take (p .0 - 1) (messages n t))
+  agreed-at p e = agreement answers (roomOf t) (messages n t) (h .reached) (p .0 - 1) (below p e)
+
+  reply-reported : (p : Place) → between 1 (p .0) n ≡ true → houseReply (messageAt (messages n t) p) ≡ true
+      → reportOn (take (p .0 - 1) (messages n t)) (replyMark (messageAt (messages n t) p)) ≡ itsReport (replyMark (messageAt (messages n t) p))
+  reply-reported p e = reported answers (roomOf t) (messages n t) (h .reached) (p .0 - 1) (below p e)
+
+  -- and the report there
   pub report-on : (p : Place) → between 1 (p .0) n ≡ true → houseReply (messageAt (messages n t) p) ≡ true
       → report n t p ≡ itsReport (replyMark (messageAt (messages n t) p))
   unfolding report

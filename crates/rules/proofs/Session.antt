@@ -59,9 +59,9 @@ use Rattle.rules.specs.Session.{
 use Rattle.rules.specs.Step.{Outcome, Step, accepted, judge, newPlace, recordAfter}
 
 -- a message has its place in a record
-record Placed (R : Record) (p : Place) (x : Message) : Type 0 where
-  message : messageAt R p ≡ x
-  inside : between 1 (p .0) (length R) ≡ true
+pub record Placed (R : Record) (p : Place) (x : Message) : Type 0 where
+  pub message : messageAt R p ≡ x
+  pub inside : between 1 (p .0) (length R) ≡ true
 
 placed-member : {R : Record} {p : Place} {x : Message} → Placed R p x → x ∈ R
 placed-member {R} {p} h = Memᴰ·cast (sym (h .message)) (member-place R (p .0) (h .inside))
@@ -90,7 +90,7 @@ module _ (answers room : ℕ) where
       let more = grown answers room R ss in
       subst (λ (T : Record). Placed T p x) (sym (more .1)) (placed-in R (more .0) p x h)
 
-  placed-new : (R : Record) (s : Step) (x : Message) (ss : List Step) → judge answers room R s ≡ accepted x
+  pub placed-new : (R : Record) (s : Step) (x : Message) (ss : List Step) → judge answers room R s ≡ accepted x
       → Placed (played answers room R (s ∷ ss)) (newPlace R) x
   unfolding played
   placed-new R s x ss e =

@@ -5,6 +5,7 @@ pub mod Gates
 pub mod Honest
 pub mod Items
 pub mod Lists
+pub mod Promised
 pub mod Reached
 pub mod Report
 pub mod Run

@@ -1,7 +1,7 @@
 -- An honest session: steps 1 to 5 for one buyer and one seller, each naming the messages that the session's earlier steps added, with any
 -- lists of other steps between them.
 use Prim.Native.Nat.{ℕ}
-use mathlib.Core.List.{List, [], _∷_}
+use mathlib.Core.List.{List, [], _∷_, _++_}
 use mathlib.Core.Path.{_≡_}
 use lib.ListN.{length, take}
 use Rattle.record.specs.Layout.{filled}
@@ -67,6 +67,12 @@ module _ (c : Setting) where
   -- the record when other steps are played after the fifth
   abbrev pub R6 : List Step → Record
   R6 after5 = on R5 (step5 ∷ after5)
+
+  -- all of it as one list
+  abbrev pub sessionSteps : List Step → List Step
+  sessionSteps after5 =
+      step1
+      ∷ (c .after1 ++ (step2 ∷ (c .after2 ++ (step3 ∷ (c .after3 ++ (step4 ∷ (c .after4 ++ (step5 ∷ after5))))))))
 
   -- the mark of the payment, and the reply to it
   abbrev pub sessionMark : Mark
