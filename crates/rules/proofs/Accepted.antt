@@ -1,5 +1,5 @@
 -- A step is accepted when every gate stands open, and then only: what an accepted step passed, gate by gate, and the message that it adds.
-use mathlib.Core.Bool.{Bool, true, false, cond, false≢true}
+use mathlib.Core.Bool.{Bool, true, false, cond}
 use mathlib.Core.List.{List, [], _∷_}
 use mathlib.Core.Path.{_≡_, _∙_, refl, sym, ap}
 use Prim.Native.Nat.{ℕ, _<_}
@@ -9,7 +9,7 @@ use lib.ListN.{length}
 use Rattle.record.specs.Parts.{Message}
 use Rattle.record.specs.Table.{Record}
 use Rattle.record.specs.Tests.{all}
-use Rattle.rules.proofs.Tests.{Each, both, each, each-all, first, second}
+use Rattle.rules.proofs.Tests.{Each}
 use Rattle.rules.specs.Codes.{Argument, Deed, Row, known, rowOf}
 use Rattle.rules.specs.Gates.{Gate, _unless_, through}
 use Rattle.rules.specs.Honest.{holds}

@@ -1,85 +1,34 @@
 -- Agreement: when the house has replied, buyer and seller of that payment have said the same, unless both are the outsider. Either's
 -- signature on the Auth-Request vouches for his own messages and for those that the other sent; what the outsider sent he made himself.
 use mathlib.Core.Bool.{Bool, true, false, _&&_, false≢true, true≢false}
-use mathlib.Core.List.{List, [], _∷_, Memᴰ·cast}
+use mathlib.Core.List.{List, [], Memᴰ·cast}
 use mathlib.Core.Path.{_≡_, _∙_, refl, sym, ap, subst}
 use Prim.Native.Nat.{ℕ, _+_, _<_}
 use borrow.Author.Tests.{eqb-false, eqb-true}
 use lib.Dec.{eqb}
 use lib.ListN.{getD, length, take}
-use Rattle.record.specs.Layout.{
-  AuthRequest,
-  AuthResponse,
-  Initiate,
-  Invoice,
-  Payment,
-  aPayment,
-  anAuthRequest,
-  anInitiate,
-  anInvoice,
-  body,
-  destination,
-  maker,
-  requestBuyerSigned,
-  requestSigned,
-  requestSlip,
-  source,
-}
-use Rattle.record.specs.Parts.{
-  Message,
-  accountAt,
-  buyerAt,
-  gatewayAt,
-  markAt,
-  markWidth,
-  ownerOf,
-  sellerAt,
-  slipAt,
-  slipWidth,
-}
+use Rattle.record.specs.Layout.{AuthRequest, AuthResponse, Initiate, Invoice, Payment, aPayment, anAuthRequest, anInitiate, anInvoice, body, destination, maker, requestBuyerSigned, requestSigned, requestSlip, source}
+use Rattle.record.specs.Parts.{Message, buyerAt, gatewayAt, markAt, markWidth, ownerOf, sellerAt, slipAt, slipWidth}
 use Rattle.record.specs.Signed.{buyerSignedAt, requestSignedAt}
 use Rattle.record.specs.Table.{Record}
 use Rattle.record.specs.Tests.{all}
 use Rattle.record.specs.declared.parts.Buyer.{Buyer}
-use Rattle.record.specs.declared.parts.Gateway.{Gateway}
 use Rattle.record.specs.declared.parts.Mark.{Mark}
 use Rattle.record.specs.declared.parts.Seller.{Seller}
-use Rattle.record.specs.declared.parts.Slip.{Slip}
 use Rattle.record.specs.declared.signed.BuyerSigned.{BuyerSigned}
 use Rattle.record.specs.declared.signed.RequestSigned.{RequestSigned}
 use Rattle.rules.proofs.Claims.{facts, the-buyer, the-gateway, the-mark, the-seller, the-slip}
 use Rattle.rules.proofs.Deeds.{Taken, by-deed, named}
 use Rattle.rules.proofs.Laid.{relaid}
-use Rattle.rules.proofs.Reached.{Entered, history}
-use Rattle.rules.proofs.Vouched.{
-  BuyerVouched,
-  BuyerVouches,
-  InitiateSent,
-  InvoiceSent,
-  PaymentSent,
-  SellerVouched,
-  SellerVouches,
-  Sound,
-  reached-sound,
-  sound-as,
-}
+use Rattle.rules.proofs.Reached.{history}
+use Rattle.rules.proofs.Vouched.{BuyerVouched, InitiateSent, InvoiceSent, PaymentSent, SellerVouched, Sound, reached-sound, sound-as}
 use Rattle.rules.specs.Agreed.{Agreed, _∈_}
 use Rattle.rules.specs.Codes.{Argument, Deed, asks, forges, invoices, pays, replies, starts}
 use Rattle.rules.specs.Honest.{holds, house, rebuilt, replyClaims}
 use Rattle.rules.specs.Items.{isKind}
 use Rattle.rules.specs.Reached.{Reached}
-use Rattle.rules.specs.Report.{
-  houseReply,
-  itsInitiate,
-  itsInvoice,
-  itsPayment,
-  itsRequest,
-  itsSlip,
-  outside,
-  replyMark,
-}
-use Rattle.rules.specs.Run.{stepWidth}
-use Rattle.rules.specs.Step.{Step, accepted, added, judge, theRequest}
+use Rattle.rules.specs.Report.{houseReply, itsInitiate, itsInvoice, itsPayment, itsRequest, itsSlip, outside, replyMark}
+use Rattle.rules.specs.Step.{added, theRequest}
 
 -- the signatures of a payment with the mark x
 abbrev itsBuyerSigned : Mark → BuyerSigned

@@ -1,15 +1,15 @@
 -- What a step gives: an argument that its row has passed the tests that each argument passed, one that the row lacks reads as 0; and
 -- the rows of the table have what their deeds read.
-use mathlib.Core.Bool.{Bool, true, false, cond, _&&_, _||_, false≢true, true≢false}
-use mathlib.Core.List.{List, [], _∷_, List·Memᴰ, List·Memᴰ·head, List·Memᴰ·tail}
+use mathlib.Core.Bool.{Bool, true, false, cond, _||_, false≢true, true≢false}
+use mathlib.Core.List.{List, [], _∷_}
 use mathlib.Core.Path.{_≡_, _∙_, refl, sym, ap, subst}
-use Prim.Native.Nat.{ℕ, zero, suc, _≤_, _<_}
+use Prim.Native.Nat.{ℕ, _≤_}
 use borrow.Author.Tests.{eqb-true}
 use lib.Dec.{eqb}
 use lib.ListN.{length}
 use native.Mathlib.Nat.{le-of-suc-le-suc, not-suc-le-zero}
 use Rattle.record.specs.Layout.{AuthRequest, AuthResponse, Initiate, Invoice, Payment}
-use Rattle.rules.proofs.Tests.{both, first, second}
+use Rattle.rules.proofs.Tests.{first, second}
 use Rattle.rules.specs.Codes.{Argument, Item, letter}
 use Rattle.rules.specs.Forged.{given, gives}
 use Rattle.rules.specs.Items.{eachArgument}

@@ -1,8 +1,8 @@
 -- An accepted step by what its code does, never by its number: what it names stands in the record and has the kind or the item that is
 -- wanted. One computed test of the 37 rows says that each row has what its deed reads.
-use mathlib.Core.Bool.{Bool, true, false, _&&_, _||_, false≢true}
-use mathlib.Core.List.{List, [], _∷_, List·Memᴰ, List·Memᴰ·head, List·Memᴰ·tail}
-use mathlib.Core.Path.{_≡_, _∙_, refl, sym, ap, subst}
+use mathlib.Core.Bool.{Bool, true, _&&_, _||_}
+use mathlib.Core.List.{List, [], _∷_, List·Memᴰ·head, List·Memᴰ·tail}
+use mathlib.Core.Path.{_≡_, _∙_, refl, sym, subst}
 use Prim.Native.Nat.{ℕ, zero, suc, _-_, _≤_, _<_}
 use borrow.Author.Tests.{leb-true}
 use lib.Dec.{leb}
@@ -14,28 +14,13 @@ use Rattle.record.specs.Layout.{AuthRequest, AuthResponse, Initiate, Invoice, K
 use Rattle.record.specs.Parts.{Message}
 use Rattle.record.specs.Table.{Record, messageAt}
 use Rattle.record.specs.Tests.{all}
-use Rattle.rules.proofs.Accepted.{Accepted, Passed, is-accepted}
+use Rattle.rules.proofs.Accepted.{Passed, is-accepted}
 use Rattle.rules.proofs.Arguments.{passed-given}
 use Rattle.rules.proofs.Tests.{first, second}
 use Rattle.rules.specs.Agreed.{_∈_}
-use Rattle.rules.specs.Codes.{
-  Argument,
-  Deed,
-  Item,
-  Row,
-  asks,
-  forges,
-  invoices,
-  known,
-  pays,
-  replies,
-  rowOf,
-  row,
-  rows,
-  starts,
-}
+use Rattle.rules.specs.Codes.{Argument, Deed, Item, Row, asks, forges, invoices, known, pays, replies, rowOf, row, rows, starts}
 use Rattle.rules.specs.Forged.{copied, given, gives}
-use Rattle.rules.specs.Items.{eachArgument, holding, inRange, isKind, placed, yields}
+use Rattle.rules.specs.Items.{holding, inRange, isKind, placed, yields}
 use Rattle.rules.specs.Run.{stepWidth}
 use Rattle.rules.specs.Step.{Step, accepted, added, argumentsOf, codeOf, judge}
 

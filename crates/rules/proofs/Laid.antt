@@ -1,37 +1,12 @@
 -- A message that steps make is what its own parts, read at their positions, make when they are laid out again; so a receiver that has
 -- compared the parts has compared the message.
-use mathlib.Core.Bool.{Bool, true}
-use mathlib.Core.List.{List, [], _∷_}
-use mathlib.Core.Path.{_≡_, _∙_, refl, sym, ap, subst}
+use mathlib.Core.Bool.{true}
+use mathlib.Core.List.{[], _∷_}
+use mathlib.Core.Path.{_≡_, _∙_, refl, sym, ap}
 use Prim.Native.Nat.{ℕ, _-_}
 use borrow.Author.Tests.{eqb-true}
 use lib.ListN.{getD, length}
-use Rattle.record.specs.Layout.{
-  AuthRequest,
-  AuthResponse,
-  Initiate,
-  Invoice,
-  Kind,
-  Payment,
-  aPayment,
-  anAuthRequest,
-  anAuthResponse,
-  anInitiate,
-  anInvoice,
-  body,
-  destination,
-  invoiceSigned,
-  kindNumber,
-  kindOf,
-  maker,
-  messageWidth,
-  paymentSigned,
-  replySigned,
-  requestBuyerSigned,
-  requestSigned,
-  requestSlip,
-  source,
-}
+use Rattle.record.specs.Layout.{AuthRequest, AuthResponse, Initiate, Invoice, Kind, Payment, aPayment, anAuthRequest, anAuthResponse, anInitiate, anInvoice, body, destination, invoiceSigned, kindNumber, kindOf, maker, messageWidth, paymentSigned, replySigned, requestBuyerSigned, requestSigned, requestSlip, source}
 use Rattle.record.specs.Parts.{Message, buyerAt, gatewayAt, hashedAt, markAt, sellerAt, slipAt}
 use Rattle.record.specs.Signed.{buyerSignedAt, invoiceSignedAt, replySignedAt, requestSignedAt}
 use Rattle.rules.specs.Items.{isKind}

@@ -3,52 +3,21 @@
 use mathlib.Core.Bool.{Bool, true, false, cond, _&&_, _||_, or-true, true≢false}
 use mathlib.Core.List.{List, [], _∷_, _++_}
 use mathlib.Core.Logic.{⊎-elim}
-use mathlib.Core.Path.{_≡_, _∙_, refl, sym, ap, subst}
-use Prim.Native.Nat.{ℕ, zero, suc, _%_, _*_, _+_, _≤_}
-use borrow.Author.Tests.{eqb-false, eqb-true, le-leb, leb-true}
+use mathlib.Core.Path.{_≡_, _∙_, refl, sym, ap}
+use Prim.Native.Nat.{ℕ, _%_, _*_, _+_, _≤_}
+use borrow.Author.Tests.{eqb-false, le-leb, leb-true}
 use lib.Dec.{eqb, leb}
-use lib.ListN.{getD, length, length-append}
+use lib.ListN.{length, length-append}
 use native.Mathlib.Omega.{arith}
-use Rattle.record.specs.Lawful.{
-  Range,
-  accounts,
-  buyers,
-  codes,
-  draws,
-  fits,
-  gateways,
-  lawful,
-  markRanges,
-  sellers,
-  slipRanges,
-  within,
-}
-use Rattle.record.specs.Layout.{
-  AuthRequest,
-  AuthResponse,
-  Initiate,
-  Invoice,
-  Kind,
-  Payment,
-  body,
-  destination,
-  invoiceSigned,
-  messageWidth,
-  paymentSigned,
-  replySigned,
-  requestBuyerSigned,
-  requestSigned,
-  requestSlip,
-  source,
-}
+use Rattle.record.specs.Lawful.{Range, accounts, buyers, codes, draws, fits, lawful, markRanges, sellers, slipRanges, within}
+use Rattle.record.specs.Layout.{AuthRequest, AuthResponse, Initiate, Invoice, Kind, Payment, body, destination, invoiceSigned, messageWidth, paymentSigned, replySigned, requestBuyerSigned, requestSigned, requestSlip, source}
 use Rattle.record.specs.Parts.{Message, accountOf, buyerAt, drawnAt, drawnNumbers, drawnWidth, hashedAt, hashedWidth, markAt, markNumbers, markWidth, sellerAt, slipAt, slipNumbers, slipWidth}
 use Rattle.record.specs.Signed.{buyerSignedAt, buyerSignedWidth, invoiceSignedWidth, replySignedWidth, requestSignedWidth}
-use Rattle.record.specs.Table.{Record, lawfulRecord, messageAt, messages, mostRoom, roomOf, whole}
+use Rattle.record.specs.Table.{Record, lawfulRecord, messageAt, messages, mostRoom, roomOf}
 use Rattle.record.specs.Tests.{all}
 use Rattle.record.specs.declared.parts.Account.{Account}
 use Rattle.record.specs.declared.parts.Buyer.{Buyer}
 use Rattle.record.specs.declared.parts.Drawn.{Drawn}
-use Rattle.record.specs.declared.parts.Hashed.{Hashed}
 use Rattle.record.specs.declared.parts.Mark.{Mark}
 use Rattle.record.specs.declared.parts.Seller.{Seller}
 use Rattle.record.specs.declared.parts.Slip.{Slip}
@@ -56,84 +25,17 @@ use Rattle.record.proofs.Cut.{length-cut}
 use Rattle.rules.proofs.Accepted.{is-accepted}
 use Rattle.rules.proofs.Arguments.{not-given, passed-given}
 use Rattle.rules.proofs.Deeds.{Taken, by-deed, copied-from, hashedBuilt, markBuilt, member-place, named, ranged, slipBuilt}
-use Rattle.rules.proofs.Ranges.{
-  BuyerSigned✓,
-  Hashed✓,
-  InvoiceSigned✓,
-  Mark✓,
-  ReplySigned✓,
-  RequestSigned✓,
-  Slip✓,
-  fits-append,
-  fits-at,
-  fits-part,
-  lawful-initiate,
-  lawful-invoice,
-  lawful-number,
-  lawful-part,
-  lawful-payment,
-  lawful-reply,
-  lawful-request,
-}
+use Rattle.rules.proofs.Ranges.{BuyerSigned✓, Hashed✓, InvoiceSigned✓, Mark✓, ReplySigned✓, RequestSigned✓, Slip✓, fits-append, fits-at, fits-part, lawful-initiate, lawful-invoice, lawful-number, lawful-part, lawful-payment, lawful-reply, lawful-request}
 use Rattle.rules.proofs.Reached.{kept-reached}
 use Rattle.rules.proofs.Tests.{all-append, all-member, both, either, first, other, picked, second}
 use Rattle.rules.specs.Agreed.{_∈_}
 use Rattle.rules.specs.Codes.{Argument, Deed, Item, asks, forges, invoices, pays, replies, starts}
-use Rattle.rules.specs.Forged.{
-  account,
-  buyer,
-  buyerSignature,
-  code,
-  copied,
-  drawn,
-  given,
-  gives,
-  hashed,
-  invoiceSignature,
-  itemOr,
-  mark,
-  noBuyer,
-  noGateway,
-  noSeller,
-  replySignature,
-  requestSignature,
-  seller,
-  slip,
-}
+use Rattle.rules.specs.Forged.{account, buyer, buyerSignature, code, copied, drawn, given, gives, hashed, invoiceSignature, itemOr, mark, noBuyer, noGateway, noSeller, replySignature, requestSignature, seller, slip}
 use Rattle.rules.specs.Honest.{codeFor, good, house, markFor, orderMark, slipUnder}
-use Rattle.rules.specs.Items.{
-  buyerSignedIn,
-  drawnIn,
-  hasSlip,
-  hashedIn,
-  holding,
-  inRange,
-  invoiceSignedIn,
-  isKind,
-  markIn,
-  placed,
-  readable,
-  replySignedIn,
-  requestSignedIn,
-  slipIn,
-  yields,
-}
+use Rattle.rules.specs.Items.{buyerSignedIn, drawnIn, hasSlip, hashedIn, holding, inRange, invoiceSignedIn, isKind, markIn, placed, readable, replySignedIn, requestSignedIn, slipIn, yields}
 use Rattle.rules.specs.Reached.{HoldsReached, Reached}
 use Rattle.rules.specs.Run.{stepWidth}
-use Rattle.rules.specs.Step.{
-  Step,
-  accepted,
-  added,
-  judge,
-  judgeTable,
-  refused,
-  theBuyer,
-  theInitiate,
-  theInvoice,
-  thePayment,
-  theRequest,
-  theSeller,
-}
+use Rattle.rules.specs.Step.{Step, accepted, added, judge, judgeTable, refused, theBuyer, theInitiate, theInvoice, thePayment, theRequest, theSeller}
 
 abbrev Account✓ : Account → Type 0
 Account✓ a = within accounts (a .0) ≡ true

@@ -1,39 +1,13 @@
 -- Numbers held to a row of ranges: put together part by part, and read at any position; and each kind of message is lawful when its parts are.
-use mathlib.Core.Bool.{Bool, true, false, _&&_, false≢true}
+use mathlib.Core.Bool.{true, false≢true}
 use mathlib.Core.List.{List, [], _∷_, _++_}
-use mathlib.Core.Path.{_≡_, _∙_, refl, sym, ap, subst}
+use mathlib.Core.Path.{_≡_, refl, ap, subst}
 use Prim.Native.Nat.{ℕ, zero, suc, _-_}
 use borrow.Author.Tests.{eqb-true}
 use lib.Dec.{eqb}
 use lib.ListN.{getD, length, replicate}
-use Rattle.record.specs.Lawful.{
-  Range,
-  buyers,
-  codes,
-  fits,
-  gateways,
-  hashedRanges,
-  kindRanges,
-  kinds,
-  lawful,
-  markRanges,
-  sellers,
-  slipRanges,
-  unused,
-  within,
-}
-use Rattle.record.specs.Layout.{
-  Kind,
-  aPayment,
-  anAuthRequest,
-  anAuthResponse,
-  anInitiate,
-  anInvoice,
-  filled,
-  kindNumber,
-  kindOf,
-  messageWidth,
-}
+use Rattle.record.specs.Lawful.{Range, buyers, codes, fits, gateways, hashedRanges, kindRanges, kinds, lawful, markRanges, sellers, slipRanges, unused, within}
+use Rattle.record.specs.Layout.{Kind, aPayment, anAuthRequest, anAuthResponse, anInitiate, anInvoice, filled, kindNumber, kindOf, messageWidth}
 use Rattle.record.specs.Parts.{Message, hashedNumbers, markNumbers, slipNumbers}
 use Rattle.record.specs.Signed.{buyerSignedNumbers, invoiceSignedNumbers, replySignedNumbers, requestSignedNumbers}
 use Rattle.record.specs.declared.parts.Buyer.{Buyer}

@@ -3,9 +3,9 @@ use mathlib.Core.Bool.{Bool, true, false, cond, _||_, or-true}
 use mathlib.Core.List.{List, [], _∷_, List·Memᴰ·cases-cons, List·Memᴰ·not-nil}
 use mathlib.Core.Logic.{⊎-elim}
 use mathlib.Core.Path.{_≡_, _∙_, refl, sym, ap}
-use Prim.Native.Nat.{ℕ, _-_, _≤_, _<_}
+use Prim.Native.Nat.{ℕ, _-_, _<_}
 use borrow.Author.Tests.{eq-eqb, leb-true}
-use lib.Dec.{eqb, leb}
+use lib.Dec.{leb}
 use lib.ListN.{getD, length, take}
 use native.Mathlib.Omega.{arith}
 use Rattle.record.proofs.Cut.{length-cut}
@@ -23,19 +23,7 @@ use Rattle.rules.proofs.Tests.{both, eq-same, first, picked, second}
 use Rattle.rules.specs.Agreed.{Agreed, itsReport, _∈_}
 use Rattle.rules.specs.Gates.{_unless_}
 use Rattle.rules.specs.Reached.{HoldsReached, Reached}
-use Rattle.rules.specs.Report.{
-  agreed,
-  houseReply,
-  itsInitiate,
-  itsInvoice,
-  itsPayment,
-  itsRequest,
-  outside,
-  replyMark,
-  report,
-  reportOn,
-  stands,
-}
+use Rattle.rules.specs.Report.{agreed, houseReply, itsInitiate, itsInvoice, itsPayment, itsRequest, outside, replyMark, report, reportOn, stands}
 
 -- the report's own tests say the same as agreement
 member-stands : (x : Message) (R : Record) → x ∈ R → stands x R ≡ true

@@ -2,7 +2,7 @@
 use mathlib.Core.Bool.{Bool, true, false, cond, _&&_}
 use mathlib.Core.List.{List, [], _∷_, _++_, append-assoc, List·Memᴰ·head, List·Memᴰ·tail}
 use mathlib.Core.Path.{_≡_, _∙_, refl, sym, ap, ap₂, subst, subst₂}
-use Prim.Native.Nat.{ℕ, zero, suc, _+_, _*_, _-_, _/_, _%_, _≤_, _<_}
+use Prim.Native.Nat.{ℕ, zero, suc, _+_, _*_, _/_, _%_, _≤_}
 use borrow.Author.Tests.{eq-eqb}
 use lib.Dec.{eqb, leb}
 use lib.ListN.{List·getD-append, drop, getD, length, length-append, length-drop, length-take, take}
@@ -28,33 +28,8 @@ use Rattle.rules.specs.Gates.{_unless_}
 use Rattle.rules.specs.Promised.{Kept, sessionAfter}
 use Rattle.rules.specs.Reached.{HoldsReached, Reached, seven}
 use Rattle.rules.specs.Report.{houseReply, replyMark}
-use Rattle.rules.specs.Run.{
-  Ran,
-  flat,
-  over,
-  played,
-  run,
-  stepCount,
-  stepWidth,
-  stepsOf,
-  verdicts,
-  wholeSteps,
-}
-use Rattle.rules.specs.Session.{
-  R2,
-  R3,
-  R4,
-  R5,
-  R6,
-  Setting,
-  sessionReply,
-  sessionSteps,
-  step1,
-  step2,
-  step3,
-  step4,
-  step5,
-}
+use Rattle.rules.specs.Run.{Ran, flat, over, played, run, stepCount, stepWidth, stepsOf, verdicts, wholeSteps}
+use Rattle.rules.specs.Session.{R2, R3, R4, R5, R6, Setting, sessionReply, sessionSteps, step1, step2, step3, step4, step5}
 use Rattle.rules.specs.Step.{Step, judge, newPlace, numberOf, recordAfter}
 
 -- messages written one after the other and cut again

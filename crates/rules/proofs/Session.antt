@@ -1,12 +1,12 @@
 -- Every honest session is accepted and its reply reported, from any record and with any other steps between its own, if there is room: what
 -- a step added keeps its place, and each of the five finds in the session's messages what it wants.
-use mathlib.Core.Bool.{Bool, true}
+use mathlib.Core.Bool.{true}
 use mathlib.Core.List.{List, [], _∷_, _++_, Memᴰ·cast}
 use mathlib.Core.Path.{_≡_, _∙_, refl, sym, ap, ap₂, subst}
 use Prim.Native.Nat.{ℕ, _+_, _-_, _≤_, _<_}
 use borrow.Author.Tests.{le-leb, leb-true}
 use lib.Dec.{leb}
-use lib.ListN.{List·getD-append, getD, length, length-append, take}
+use lib.ListN.{List·getD-append, length, length-append, take}
 use lib.Seq.{getD-at, take-append-seam}
 use native.Mathlib.Omega.{arith}
 use Rattle.record.specs.Lawful.{between, buyers, sellers, within}
@@ -25,37 +25,11 @@ use Rattle.rules.proofs.Reached.{grown}
 use Rattle.rules.proofs.Reports.{agreed-report}
 use Rattle.rules.proofs.Tests.{both, first, second}
 use Rattle.rules.specs.Agreed.{Agreed, _∈_}
-use Rattle.rules.specs.Honest.{
-  askClaims,
-  asked,
-  holds,
-  invoiceClaims,
-  invoiced,
-  paid,
-  payClaims,
-  replied,
-  replyClaims,
-  started,
-}
+use Rattle.rules.specs.Honest.{askClaims, asked, holds, invoiceClaims, invoiced, paid, payClaims, replied, replyClaims, started}
 use Rattle.rules.specs.Items.{isKind}
 use Rattle.rules.specs.Report.{itsInitiate, itsInvoice, itsPayment, itsRequest, reportOn}
 use Rattle.rules.specs.Run.{played}
-use Rattle.rules.specs.Session.{
-  R2,
-  R3,
-  R4,
-  R5,
-  Session,
-  Setting,
-  sessionMark,
-  sessionReply,
-  step1,
-  step2,
-  step3,
-  step4,
-  step5,
-  stepOf,
-}
+use Rattle.rules.specs.Session.{R2, R3, R4, R5, Session, Setting, sessionMark, sessionReply, step1, step2, step3, step4, step5, stepOf}
 use Rattle.rules.specs.Step.{Outcome, Step, accepted, judge, newPlace, recordAfter}
 
 -- a message has its place in a record

@@ -1,43 +1,13 @@
 -- What every reached record keeps, as things that stand in it, so that a longer record keeps them: a message sent by 0 is made by 0; an
 -- Invoice that an honest seller made answers an Initiate; and a signature by an honest party vouches for the messages that its owner
 -- made and for those that were sent to him. Nothing here is about keys, accounts or draws that the outsider does not know.
-use mathlib.Core.Bool.{Bool, true, false, cond, false≢true}
-use mathlib.Core.List.{
-  List,
-  List·Memᴰ·append-cases,
-  List·Memᴰ·eq-of-singleton,
-  List·Memᴰ·head,
-  List·Memᴰ·not-nil,
-  Memᴰ·append-left,
-  Memᴰ·append-right,
-  Memᴰ·cast,
-  [],
-  _++_,
-  _∷_,
-}
+use mathlib.Core.Bool.{true}
+use mathlib.Core.List.{List, List·Memᴰ·append-cases, List·Memᴰ·eq-of-singleton, List·Memᴰ·head, List·Memᴰ·not-nil, Memᴰ·append-left, Memᴰ·append-right, Memᴰ·cast, [], _++_, _∷_}
 use mathlib.Core.Logic.{⊎-elim}
 use mathlib.Core.Path.{_≡_, _∙_, refl, sym, ap, subst}
 use Prim.Native.Nat.{ℕ, _+_}
 use lib.ListN.{getD, length}
-use Rattle.record.specs.Layout.{
-  AuthRequest,
-  AuthResponse,
-  Initiate,
-  Invoice,
-  Kind,
-  Payment,
-  aPayment,
-  anInitiate,
-  anInvoice,
-  body,
-  destination,
-  invoiceSigned,
-  maker,
-  paymentSigned,
-  requestBuyerSigned,
-  requestSigned,
-  source,
-}
+use Rattle.record.specs.Layout.{AuthRequest, AuthResponse, Initiate, Invoice, Kind, Payment, aPayment, anInitiate, anInvoice, body, destination, invoiceSigned, maker, paymentSigned, requestBuyerSigned, requestSigned, source}
 use Rattle.record.specs.Parts.{Message, buyerAt, hashedAt, markAt, sellerAt, slipAt, slipWidth}
 use Rattle.record.specs.Signed.{buyerSignedAt, requestSignedAt}
 use Rattle.record.specs.Table.{Record, messageAt}
@@ -54,7 +24,7 @@ use Rattle.rules.proofs.Tests.{first, other, picked, second}
 use Rattle.rules.specs.Agreed.{_∈_}
 use Rattle.rules.specs.Codes.{Argument, Deed, Item, asks, forges, invoices, pays, replies, starts}
 use Rattle.rules.specs.Forged.{buyerSignature, copied, given, gives, mark, noBuyer, noSeller, requestSignature, slip}
-use Rattle.rules.specs.Honest.{askClaims, asked, initiateBy, invoiceBy, invoiceClaims, orderMark, paid, payClaims, paymentBy, requestBy}
+use Rattle.rules.specs.Honest.{askClaims, invoiceClaims, orderMark, payClaims, paymentBy, requestBy}
 use Rattle.rules.specs.Items.{buyerSignedIn, hasSlip, isKind, requestSignedIn}
 use Rattle.rules.specs.Reached.{Reached}
 use Rattle.rules.specs.Report.{itsInitiate, itsInvoice}

@@ -5,7 +5,6 @@ use mathlib.Core.List.{List, [], _∷_, _++_}
 use mathlib.Core.Path.{_≡_}
 use lib.ListN.{getD, length, take}
 use Rattle.record.specs.Lawful.{between, buyers, sellers, within}
-use Rattle.record.specs.Parts.{Message}
 use Rattle.record.specs.Table.{Record, lawfulRecord, messageAt, messages, roomOf}
 use Rattle.record.specs.declared.parts.Buyer.{Buyer}
 use Rattle.record.specs.declared.parts.Place.{Place}
