@@ -1,6 +1,6 @@
 -- Agreement: when the house has replied, buyer and seller of that payment have said the same, unless both are the outsider. Either's
 -- signature on the Auth-Request vouches for his own messages and for those that the other sent; what the outsider sent he made himself.
-use mathlib.Core.Bool.{Bool, true, false, _&&_, false≢true, true≢false}
+use mathlib.Core.Bool.{Bool, true, false, false≢true}
 use mathlib.Core.List.{List, [], Memᴰ·cast}
 use mathlib.Core.Path.{_≡_, _∙_, refl, sym, ap, subst}
 use Prim.Native.Nat.{ℕ, _+_, _<_}
@@ -22,12 +22,12 @@ use Rattle.rules.proofs.Deeds.{Taken, by-deed, named}
 use Rattle.rules.proofs.Laid.{relaid}
 use Rattle.rules.proofs.Reached.{history}
 use Rattle.rules.proofs.Vouched.{BuyerVouched, InitiateSent, InvoiceSent, PaymentSent, SellerVouched, Sound, reached-sound, sound-as}
-use Rattle.rules.specs.Agreed.{Agreed, _∈_}
+use Rattle.rules.specs.Agreed.{Agreed, BothOutside, _∈_}
 use Rattle.rules.specs.Codes.{Argument, Deed, asks, forges, invoices, pays, replies, starts}
 use Rattle.rules.specs.Honest.{holds, house, rebuilt, replyClaims}
 use Rattle.rules.specs.Items.{isKind}
 use Rattle.rules.specs.Reached.{Reached}
-use Rattle.rules.specs.Report.{houseReply, itsInitiate, itsInvoice, itsPayment, itsRequest, itsSlip, outside, replyMark}
+use Rattle.rules.specs.Report.{houseReply, itsInitiate, itsInvoice, itsPayment, itsRequest, itsSlip, replyMark}
 use Rattle.rules.specs.Step.{added, theRequest}
 
 -- the signatures of a payment with the mark x
@@ -104,22 +104,23 @@ module _ (R : Record) (sound : (w : Message) → w ∈ R → Sound R w) where
       (λ k. aPayment (no-buyer {a = x .buyer} {b = p .0} z (sound _ (p .1) .sent z) k) (x .buyer) (x .seller) (itsSlip x) (itsBuyerSigned x))
       (p .1)
 
-  own-request : (x : Mark) (Q : Message) → Checked x Q → x ≡ markAt Q body → x .seller .0 ≡ 0 → Q ∈ R → Q ≡ relaid AuthRequest Q
-      → itsRequest x ∈ R
-  own-request x Q c e z m laid =
+  own-request : (Q : Message) → Checked (markAt Q body) Q → markAt Q body .seller .0 ≡ 0 → Q ∈ R → Q ≡ relaid AuthRequest Q
+      → itsRequest (markAt Q body) ∈ R
+  own-request Q c z m laid =
+      let x = markAt Q body in
       let sent-by : sellerAt Q source .0 ≡ 0 = ap (λ (s : Seller). s .0) (sym (c .seller)) ∙ z in
       let made : x .seller ≡ sellerAt Q maker = no-seller z (sound Q m .sent sent-by) in
       let as-sent : itsRequest x ≡ relaid AuthRequest Q =
-      λ k. anAuthRequest (made k) (c .seller k) (c .to-house k) (e k) (c .slip k) (c .seller-signed k) (c .buyer-signed k)
+      λ k. anAuthRequest (made k) (c .seller k) (c .to-house k) x (c .slip k) (c .seller-signed k) (c .buyer-signed k)
       in
       Memᴰ·cast (as-sent ∙ sym laid) m
 
-  -- the four cases: buyer or seller is the outsider, neither is; both are not asked about
-  four : (x : Mark) → x .hashed .account .0 ≡ x .buyer .0 → BuyerVouched R (itsBuyerSigned x) → SellerVouched R (itsSellerSigned x)
-      → (x .seller .0 ≡ 0 → itsRequest x ∈ R) → (b s : Bool) → eqb (x .buyer .0) 0 ≡ b → eqb (x .seller .0) 0 ≡ s → (b && s) ≡ false
-      → Agreed x R
-  four x a buyer seller request true true eb es n = absurd (true≢false n)
-  four x a buyer seller request true false eb es n =
+  -- the four cases: both are the outsider, which is not asked about; the buyer is; the seller is; neither is
+  four : (x : Mark) → ¬ BothOutside x → x .hashed .account .0 ≡ x .buyer .0 → BuyerVouched R (itsBuyerSigned x)
+      → SellerVouched R (itsSellerSigned x) → (x .seller .0 ≡ 0 → itsRequest x ∈ R) → (b s : Bool) → eqb (x .buyer .0) 0 ≡ b
+      → eqb (x .seller .0) 0 ≡ s → Agreed x R
+  four x n a buyer seller request true true eb es = absurd (n (eqb-true (x .buyer .0) 0 eb, eqb-true (x .seller .0) 0 es))
+  four x n a buyer seller request true false eb es =
       let no-b = eqb-true (x .buyer .0) 0 eb in
       let s = seller (eqb-false (x .seller .0) 0 es) in
       record {
@@ -129,7 +130,7 @@ module _ (R : Record) (sound : (w : Message) → w ∈ R → Sound R w) where
         payment = own-payment x no-b (s .payment);
         request = s .request;
       }
-  four x a buyer seller request false true eb es n =
+  four x n a buyer seller request false true eb es =
       let no-s = eqb-true (x .seller .0) 0 es in
       let b = buyer (eqb-false (x .buyer .0) 0 eb) in
       record {
@@ -139,42 +140,43 @@ module _ (R : Record) (sound : (w : Message) → w ∈ R → Sound R w) where
         payment = b .payment;
         request = request no-s;
       }
-  four x a buyer seller request false false eb es n =
+  four x n a buyer seller request false false eb es =
       let b = buyer (eqb-false (x .buyer .0) 0 eb) in
       let s = seller (eqb-false (x .seller .0) 0 es) in
       record { account = a; initiate = b .initiate; invoice = s .invoice; payment = b .payment; request = s .request }
 
-  request-agreed : (Q : Message) → Q ∈ R → isKind AuthRequest Q ≡ true → all holds (replyClaims Q) ≡ true
-      → outside (markAt Q body) ≡ false → Agreed (markAt Q body) R
-  request-agreed Q m kind claims out =
+  request-agreed : (Q : Message) → Q ∈ R → isKind AuthRequest Q ≡ true → all holds (replyClaims Q) ≡ true → ¬ BothOutside (markAt Q body)
+      → Agreed (markAt Q body) R
+  request-agreed Q m kind claims n =
       let x = markAt Q body in
       let c = checked Q claims in
       let v = sound-as R AuthRequest Q (sound Q m) kind in
-      four x (c .account) (subst (BuyerVouched R) (sym (c .buyer-signed)) (v .1 .0))
-      (subst (SellerVouched R) (sym (c .seller-signed)) (v .1 .1)) (λ z. own-request x Q c refl z m (v .0))
-      (eqb (x .buyer .0) 0) (eqb (x .seller .0) 0) refl refl out
+      four x n (c .account) (subst (BuyerVouched R) (sym (c .buyer-signed)) (v .1 .0))
+      (subst (SellerVouched R) (sym (c .seller-signed)) (v .1 .1)) (λ z. own-request Q c z m (v .0)) (eqb (x .buyer .0) 0)
+      (eqb (x .seller .0) 0) refl refl
 
 -- of a message that a step adds to a reached record: it is a house reply only if step 5 made it
 abbrev AgreedOn : Record → Message → Type 0
-AgreedOn R x = houseReply x ≡ true → outside (replyMark x) ≡ false → Agreed (replyMark x) R
+AgreedOn R x = houseReply x ≡ true → ¬ BothOutside (replyMark x) → Agreed (replyMark x) R
 
 module _ (answers room : ℕ) (R : Record) (ks : List Argument) (xs : List ℕ) (sound : (w : Message) → w ∈ R → Sound R w) where
   deed-agreed : (d : Deed) → Taken room R d ks xs → AgreedOn R (added R ks xs answers d)
-  deed-agreed starts t h out = absurd (false≢true h)
-  deed-agreed invoices t h out = absurd (false≢true h)
-  deed-agreed pays t h out = absurd (false≢true h)
-  deed-agreed asks t h out = absurd (false≢true h)
-  deed-agreed replies t h out =
-      let n = named t AuthRequest (t .complete-row) in
-      request-agreed R sound (theRequest R ks xs) (n .0) (n .1) (t .passed .claimed) out
-  deed-agreed (forges Initiate) t h out = absurd (false≢true h)
-  deed-agreed (forges Invoice) t h out = absurd (false≢true h)
-  deed-agreed (forges Payment) t h out = absurd (false≢true h)
-  deed-agreed (forges AuthRequest) t h out = absurd (false≢true h)
-  deed-agreed (forges AuthResponse) t h out = absurd (false≢true h)
+  deed-agreed starts t h n = absurd (false≢true h)
+  deed-agreed invoices t h n = absurd (false≢true h)
+  deed-agreed pays t h n = absurd (false≢true h)
+  deed-agreed asks t h n = absurd (false≢true h)
+  deed-agreed replies t h n =
+      let q = named t AuthRequest (t .complete-row) in
+      request-agreed R sound (theRequest R ks xs) (q .0) (q .1) (t .passed .claimed) n
+  deed-agreed (forges Initiate) t h n = absurd (false≢true h)
+  deed-agreed (forges Invoice) t h n = absurd (false≢true h)
+  deed-agreed (forges Payment) t h n = absurd (false≢true h)
+  deed-agreed (forges AuthRequest) t h n = absurd (false≢true h)
+  deed-agreed (forges AuthResponse) t h n = absurd (false≢true h)
 
-pub agreement : (answers room : ℕ) (R : Record) → Reached answers room R → (i : ℕ) → i < length R
-    → houseReply (getD R i []) ≡ true → outside (replyMark (getD R i [])) ≡ false → Agreed (replyMark (getD R i [])) (take i R)
+-- the reply at index i of a reached record
+pub agreement : (answers room : ℕ) (R : Record) → Reached answers room R → (i : ℕ) → i < length R → houseReply (getD R i []) ≡ true
+    → ¬ BothOutside (replyMark (getD R i [])) → Agreed (replyMark (getD R i [])) (take i R)
 agreement answers room R r i below =
     let h = history answers room R r i below in
     by-deed answers room (take i R) (h .step) (getD R i []) (AgreedOn (take i R)) (h .numbers) (h .entered)

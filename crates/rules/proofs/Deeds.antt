@@ -1,13 +1,12 @@
 -- An accepted step by what its code does, never by its number: what it names stands in the record and has the kind or the item that is
 -- wanted. One computed test of the 37 rows says that each row has what its deed reads.
 use mathlib.Core.Bool.{Bool, true, _&&_, _||_}
-use mathlib.Core.List.{List, [], _∷_, List·Memᴰ·head, List·Memᴰ·tail}
+use mathlib.Core.List.{List, []}
 use mathlib.Core.Path.{_≡_, _∙_, refl, sym, subst}
-use Prim.Native.Nat.{ℕ, zero, suc, _-_, _≤_, _<_}
+use Prim.Native.Nat.{ℕ, _-_, _≤_}
 use borrow.Author.Tests.{leb-true}
 use lib.Dec.{leb}
-use lib.ListN.{getD, length, length-drop}
-use native.Mathlib.Nat.{le-of-suc-le-suc, not-suc-le-zero}
+use lib.ListN.{length, length-drop}
 use native.Mathlib.Omega.{arith}
 use Rattle.record.specs.Lawful.{between}
 use Rattle.record.specs.Layout.{AuthRequest, AuthResponse, Initiate, Invoice, Kind, Payment}
@@ -16,7 +15,7 @@ use Rattle.record.specs.Table.{Record, messageAt}
 use Rattle.record.specs.Tests.{all}
 use Rattle.rules.proofs.Accepted.{Passed, is-accepted}
 use Rattle.rules.proofs.Arguments.{passed-given}
-use Rattle.rules.proofs.Tests.{first, second}
+use Rattle.rules.proofs.Tests.{all-member, bounds, first, member-at, second}
 use Rattle.rules.specs.Agreed.{_∈_}
 use Rattle.rules.specs.Codes.{Argument, Deed, Item, Row, asks, forges, invoices, known, pays, replies, rowOf, row, rows, starts}
 use Rattle.rules.specs.Forged.{copied, given, gives}
@@ -51,6 +50,13 @@ module _ (ks : List Argument) where
   complete (forges AuthRequest) = slipBuilt && markBuilt
   complete (forges AuthResponse) = gives Argument.c ks && (has Item.g || markBuilt)
 
+pub two-named : (ks : List Argument) (a b : Kind) → (gives (Argument.the a) ks && gives (Argument.the b) ks) ≡ true
+    → (gives (Argument.the a) ks ≡ true) × (gives (Argument.the b) ks ≡ true)
+two-named ks a b e =
+    let p = gives (Argument.the a) ks in
+    let q = gives (Argument.the b) ks in
+    (first p q e, second p q e)
+
 abbrev six : ℕ
 six = stepWidth - 1
 
@@ -60,19 +66,10 @@ rightRow x = leb (length (x .takes)) six && complete (x .takes) (x .deed)
 right-rows : all rightRow rows ≡ true
 right-rows = refl
 
-all-at : {A : Type 0} (f : A → Bool) (xs : List A) (d : A) (i : ℕ) → all f xs ≡ true → i < length xs → f (getD xs i d) ≡ true
-all-at f [] d i e h = absurd (not-suc-le-zero h)
-all-at f (x ∷ xs) d zero e h = first (f x) (all f xs) e
-all-at f (x ∷ xs) d (suc i) e h = all-at f xs d i (second (f x) (all f xs) e) (le-of-suc-le-suc h)
-
 right-row : (code : ℕ) → known code ≡ true → rightRow (rowOf code) ≡ true
-right-row code e = all-at rightRow rows (row starts []) (code - 1) right-rows (omega (arith, least, most))
-  where
-    least : 1 ≤ code
-    least = leb-true 1 code (first (leb 1 code) (leb code (length rows)) e)
-
-    most : code ≤ length rows
-    most = leb-true code (length rows) (second (leb 1 code) (leb code (length rows)) e)
+right-row code e =
+    all-member rightRow rows (rowOf code) right-rows
+    (member-at rows (row starts []) (code - 1) (omega (arith, bounds 1 code (length rows) e)))
 
 -- a step of seven numbers that was accepted
 pub record Taken (room : ℕ) (R : Record) (d : Deed) (ks : List Argument) (xs : List ℕ) : Type 0 where
@@ -101,19 +98,8 @@ by-deed answers room R s x Q l e each-deed =
           );
     }))
 
-member-at : (R : Record) (i : ℕ) → i < length R → getD R i [] ∈ R
-member-at [] i h = absurd (not-suc-le-zero h)
-member-at (x ∷ R) zero h = List·Memᴰ·head refl
-member-at (x ∷ R) (suc i) h = List·Memᴰ·tail (member-at R i (le-of-suc-le-suc h))
-
 pub member-place : (R : Record) (k : ℕ) → between 1 k (length R) ≡ true → messageAt R (record { 0 = k }) ∈ R
-member-place R k e = member-at R (k - 1) (omega (arith, least, most))
-  where
-    least : 1 ≤ k
-    least = leb-true 1 k (first (leb 1 k) (leb k (length R)) e)
-
-    most : k ≤ length R
-    most = leb-true k (length R) (second (leb 1 k) (leb k (length R)) e)
+member-place R k e = member-at R [] (k - 1) (omega (arith, bounds 1 k (length R) e))
 
 module _ {room : ℕ} {R : Record} {d : Deed} {ks : List Argument} {xs : List ℕ} (t : Taken room R d ks xs) where
   -- an argument that the row has, in its range

@@ -24,10 +24,10 @@ use Rattle.record.specs.declared.parts.Slip.{Slip}
 use Rattle.record.proofs.Cut.{length-cut}
 use Rattle.rules.proofs.Accepted.{is-accepted}
 use Rattle.rules.proofs.Arguments.{not-given, passed-given}
-use Rattle.rules.proofs.Deeds.{Taken, by-deed, copied-from, hashedBuilt, markBuilt, member-place, named, ranged, slipBuilt}
+use Rattle.rules.proofs.Deeds.{Taken, by-deed, copied-from, hashedBuilt, markBuilt, member-place, named, ranged, slipBuilt, two-named}
 use Rattle.rules.proofs.Ranges.{BuyerSigned✓, Hashed✓, InvoiceSigned✓, Mark✓, ReplySigned✓, RequestSigned✓, Slip✓, fits-append, fits-at, fits-part, lawful-initiate, lawful-invoice, lawful-number, lawful-part, lawful-payment, lawful-reply, lawful-request}
 use Rattle.rules.proofs.Reached.{kept-reached}
-use Rattle.rules.proofs.Tests.{all-append, all-member, both, either, first, other, picked, second}
+use Rattle.rules.proofs.Tests.{all-append, all-member, both, bounded, either, first, other, picked, second}
 use Rattle.rules.specs.Agreed.{_∈_}
 use Rattle.rules.specs.Codes.{Argument, Deed, Item, asks, forges, invoices, pays, replies, starts}
 use Rattle.rules.specs.Forged.{account, buyer, buyerSignature, code, copied, drawn, given, gives, hashed, invoiceSignature, itemOr, mark, noBuyer, noGateway, noSeller, replySignature, requestSignature, seller, slip}
@@ -90,11 +90,7 @@ module _ (w : Message) (l : lawful w ≡ true) where
   drawn-in : yields Item.r w ≡ true → Drawn✓ (drawnIn w)
   drawn-in e =
       picked Drawn✓ (isKind Initiate w) (drawnAt w body) (slipIn w .drawn) (λ h. lawful-part Initiate w l h body drawnWidth)
-      (λ n. slip-drawn (slipIn w) (readable-slip (not-own (isKind Initiate w) (eqb (drawnAt w body .drawer .0) 0) (readable w) e n)))
-    where
-      not-own : (a b c : Bool) → (a && b || c) ≡ true → a ≡ false → c ≡ true
-      not-own true b c e n = absurd (true≢false n)
-      not-own false b c e n = e
+      (λ n. let r : readable w ≡ true = rw n at e in slip-drawn (slipIn w) (readable-slip r))
 
 -- what an accepted step builds from a lawful record
 module _ {room : ℕ} {R : Record} {d : Deed} {ks : List Argument} {xs : List ℕ} (all-lawful : all lawful R ≡ true) (t : Taken room R d ks xs) where
@@ -141,7 +137,7 @@ module _ {room : ℕ} {R : Record} {d : Deed} {ks : List Argument} {xs : List �
           let most : n ≤ length R = leb-true n (length R) (passed-given (placed (length R)) Argument.a ks xs (t .enough) (t .passed .places) g) in
           let held = passed-given (holding R) Argument.a ks xs (t .enough) (t .passed .held) g in
           let least : 1 ≤ n = omega (arith, eqb-false n 0 e) in
-          readable-slip w (lawful-at w (member-place R n (both (le-leb 1 n least) (le-leb n (length R) most))))
+          readable-slip w (lawful-at w (member-place R n (bounded 1 n (length R) least most)))
           (other (eqb n 0) (readable w) held e)
 
   buyer✓ : within buyers (buyer R ks xs .0) ≡ true
@@ -212,7 +208,7 @@ module _ (answers room : ℕ) (small : room ≤ mostRoom) (R : Record) (ks : Lis
       let roomy = t .passed .roomy in
       lawful-initiate B B (theSeller R ks xs) (record { drawn = record { drawer = B; draw = n }; account = accountOf B }) b b
       (seller✓ all-lawful t)
-      (both b (both (both (le-leb 1 n (omega arith)) (le-leb n 512 (omega arith))) (both b refl)))
+      (both b (both (bounded 1 n mostRoom (omega arith) (omega arith)) (both b refl)))
   lawful-added invoices t =
       let S = theSeller R ks xs in
       let I = theInitiate R ks xs in
@@ -227,7 +223,7 @@ module _ (answers room : ℕ) (small : room ≤ mostRoom) (R : Record) (ks : Lis
       let S = sellerAt I destination in
       let x = orderMark B I in
       let y = slipUnder house x (accountOf B) (hashedAt I body .drawn) in
-      let i = lawful-named all-lawful t Initiate (first (gives (Argument.the Initiate) ks) (gives (Argument.the Invoice) ks) (t .complete-row)) in
+      let i = lawful-named all-lawful t Initiate (two-named ks Initiate Invoice (t .complete-row) .0) in
       let b = named-buyer✓ all-lawful t in
       let s = lawful-number Initiate I (i .0) (i .1) destination in
       let x✓ : Mark✓ x = both s (both b (lawful-part Initiate I (i .0) (i .1) body hashedWidth)) in
@@ -235,14 +231,14 @@ module _ (answers room : ℕ) (small : room ≤ mostRoom) (R : Record) (ks : Lis
       lawful-payment B B S y (record { signer = B; slip = y; mark = x }) b b s y✓ (buyer-signed-of B y x b y✓ x✓)
   lawful-added asks t =
       let S = theSeller R ks xs in
-      let V′ = theInvoice R ks xs in
+      let J = theInvoice R ks xs in
       let P = thePayment R ks xs in
-      let x = markAt V′ body in
+      let x = markAt J body in
       let y = slipAt P body in
-      let v = lawful-named all-lawful t Invoice (first (gives (Argument.the Invoice) ks) (gives (Argument.the Payment) ks) (t .complete-row)) in
-      let p = lawful-named all-lawful t Payment (second (gives (Argument.the Invoice) ks) (gives (Argument.the Payment) ks) (t .complete-row)) in
+      let j = lawful-named all-lawful t Invoice (two-named ks Invoice Payment (t .complete-row) .0) in
+      let p = lawful-named all-lawful t Payment (two-named ks Invoice Payment (t .complete-row) .1) in
       let s = seller✓ all-lawful t in
-      let x✓ : Mark✓ x = lawful-part Invoice V′ (v .0) (v .1) body markWidth in
+      let x✓ : Mark✓ x = lawful-part Invoice J (j .0) (j .1) body markWidth in
       let y✓ : Slip✓ y = lawful-part Payment P (p .0) (p .1) body slipWidth in
       lawful-request S S house x y (record { signer = S; mark = x; slip = y }) (buyerSignedAt P paymentSigned) s s refl x✓ y✓
       (request-signed-of S x y s x✓ y✓) (lawful-part Payment P (p .0) (p .1) paymentSigned buyerSignedWidth)

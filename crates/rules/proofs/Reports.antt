@@ -1,11 +1,12 @@
--- The report on a reached record: at each house reply 21 if buyer and seller of its mark are both the outsider, else 20; so never 22.
+-- The report on a reached record: at each house reply 20 if buyer and seller of its mark are not both the outsider, 21 if they are; so
+-- never 22.
 use mathlib.Core.Bool.{Bool, true, false, cond, _||_, or-true}
 use mathlib.Core.List.{List, [], _∷_, List·Memᴰ·cases-cons, List·Memᴰ·not-nil}
 use mathlib.Core.Logic.{⊎-elim}
-use mathlib.Core.Path.{_≡_, _∙_, refl, sym, ap}
+use mathlib.Core.Path.{_≡_, _∙_, refl, sym, ap, subst}
 use Prim.Native.Nat.{ℕ, _-_, _<_}
-use borrow.Author.Tests.{eq-eqb, leb-true}
-use lib.Dec.{leb}
+use borrow.Author.Tests.{eq-eqb, eqb-true}
+use lib.Dec.{eqb}
 use lib.ListN.{getD, length, take}
 use native.Mathlib.Omega.{arith}
 use Rattle.record.proofs.Cut.{length-cut}
@@ -19,8 +20,8 @@ use Rattle.record.specs.declared.parts.Place.{Place}
 use Rattle.rules.proofs.Accepted.{passes}
 use Rattle.rules.proofs.Agreement.{agreement}
 use Rattle.rules.proofs.LawfulReached.{table-lawful}
-use Rattle.rules.proofs.Tests.{both, eq-same, first, picked, second}
-use Rattle.rules.specs.Agreed.{Agreed, itsReport, _∈_}
+use Rattle.rules.proofs.Tests.{both, bounds, eq-same, first, picked, second}
+use Rattle.rules.specs.Agreed.{Agreed, BothOutside, Reported, _∈_}
 use Rattle.rules.specs.Gates.{_unless_}
 use Rattle.rules.specs.Reached.{HoldsReached, Reached}
 use Rattle.rules.specs.Report.{agreed, houseReply, itsInitiate, itsInvoice, itsPayment, itsRequest, outside, replyMark, report, reportOn, stands}
@@ -39,52 +40,68 @@ agreed-test x R a =
     (both (member-stands (itsInvoice x) R (a .invoice))
     (both (member-stands (itsPayment x) R (a .payment)) (both (member-stands (itsRequest x) R (a .request)) refl))))
 
-pub agreed-report : (R : Record) (x : Mark) → (outside x ≡ false → Agreed x R) → reportOn R x ≡ itsReport x
-unfolding reportOn
-agreed-report R x a = go (outside x) refl
+not-outside : (x : Mark) → ¬ BothOutside x → outside x ≡ false
+not-outside x n = go (outside x) refl
   where
-    go : (b : Bool) → outside x ≡ b → _≡_ {A = ℕ} (cond b 21 (cond (agreed x R) 20 22)) (cond b 21 20)
-    go true e = refl
-    go false e = ap (λ (b : Bool). cond b 20 22) (agreed-test x R (a e))
+    go : (b : Bool) → outside x ≡ b → b ≡ false
+    go true e =
+        let no-buyer = eqb (x .buyer .0) 0 in
+        let no-seller = eqb (x .seller .0) 0 in
+        absurd (n (eqb-true (x .buyer .0) 0 (first no-buyer no-seller e), eqb-true (x .seller .0) 0 (second no-buyer no-seller e)))
+    go false e = refl
+
+is-outside : (x : Mark) → BothOutside x → outside x ≡ true
+is-outside x b = both (eq-eqb (x .buyer .0) 0 (b .0)) (eq-eqb (x .seller .0) 0 (b .1))
+
+pub agreed-report : (R : Record) (x : Mark) → (¬ BothOutside x → Agreed x R) → Reported x (reportOn R x)
+unfolding reportOn
+agreed-report R x a =
+    record {
+      agreed =
+          λ n.
+          ap (λ (b : Bool). cond b 21 (cond (agreed x R) 20 22)) (not-outside x n)
+          ∙ ap (λ (b : Bool). cond b 20 22) (agreed-test x R (a n));
+      outsider = λ b. ap (λ (b : Bool). cond b 21 (cond (agreed x R) 20 22)) (is-outside x b);
+    }
 
 -- of the reply at index i of a reached record
 pub reported : (answers room : ℕ) (R : Record) → Reached answers room R → (i : ℕ) → i < length R → houseReply (getD R i []) ≡ true
-    → reportOn (take i R) (replyMark (getD R i [])) ≡ itsReport (replyMark (getD R i []))
+    → Reported (replyMark (getD R i [])) (reportOn (take i R) (replyMark (getD R i [])))
 reported answers room R r i below h =
     agreed-report (take i R) (replyMark (getD R i [])) (agreement answers room R r i below h)
 
 abbrev Not-22 : ℕ → Type 0
 Not-22 k = k ≡ 22 → ⊥
 
-its-not-22 : (x : Mark) → Not-22 (itsReport x)
-its-not-22 x = picked Not-22 (outside x) 21 20 (λ b e. omega arith) (λ b e. omega arith)
+reported-not-22 : (x : Mark) (k : ℕ) → Reported x k → Not-22 k
+reported-not-22 x k r q = omega (arith, r .agreed (λ b. omega (arith, r .outsider b)))
 
 module _ (answers n : ℕ) (t : List ℕ) (h : HoldsReached answers n t) where
   below : (p : Place) → between 1 (p .0) n ≡ true → p .0 - 1 < length (messages n t)
-  below p e =
-      let least = leb-true 1 (p .0) (first (leb 1 (p .0)) (leb (p .0) n) e) in
-      let most = leb-true (p .0) n (second (leb 1 (p .0)) (leb (p .0) n) e) in
-      omega (arith, length-cut messageWidth n t)
+  below p e = omega (arith, bounds 1 (p .0) n e, length-cut messageWidth n t)
 
   -- agreement at a place of a table that holds a reached record
   pub agreed-at : (p : Place) → between 1 (p .0) n ≡ true → houseReply (messageAt (messages n t) p) ≡ true
-      → outside (replyMark (messageAt (messages n t) p)) ≡ false
+      → ¬ BothOutside (replyMark (messageAt (messages n t) p))
       → Agreed (replyMark (messageAt (messages n t) p)) (take (p .0 - 1) (messages n t))
   agreed-at p e = agreement answers (roomOf t) (messages n t) (h .reached) (p .0 - 1) (below p e)
 
   reply-reported : (p : Place) → between 1 (p .0) n ≡ true → houseReply (messageAt (messages n t) p) ≡ true
-      → reportOn (take (p .0 - 1) (messages n t)) (replyMark (messageAt (messages n t) p)) ≡ itsReport (replyMark (messageAt (messages n t) p))
+      → Reported (replyMark (messageAt (messages n t) p)) (reportOn (take (p .0 - 1) (messages n t)) (replyMark (messageAt (messages n t) p)))
   reply-reported p e = reported answers (roomOf t) (messages n t) (h .reached) (p .0 - 1) (below p e)
 
   -- and the report there
   pub report-on : (p : Place) → between 1 (p .0) n ≡ true → houseReply (messageAt (messages n t) p) ≡ true
-      → report n t p ≡ itsReport (replyMark (messageAt (messages n t) p))
+      → Reported (replyMark (messageAt (messages n t) p)) (report n t p)
   unfolding report
   report-on p e r =
       let reply = messageAt (messages n t) p in
-      passes (1 unless lawfulRecord n t ∷ 4 unless between 1 (p .0) n ∷ 5 unless houseReply reply ∷ []) (λ k. k)
-      (reportOn (take (p .0 - 1) (messages n t)) (replyMark reply)) (table-lawful answers n t h, (e, (r, tt)))
-      ∙ reply-reported p e r
+      let said = reportOn (take (p .0 - 1) (messages n t)) (replyMark reply) in
+      subst (Reported (replyMark reply))
+      (sym
+      (passes (1 unless lawfulRecord n t ∷ 4 unless between 1 (p .0) n ∷ 5 unless houseReply reply ∷ []) (λ k. k) said
+      (table-lawful answers n t h, (e, (r, tt)))))
+      (reply-reported p e r)
 
   -- 22 never occurs, whatever place is asked about
   pub never-22 : (p : Place) → report n t p ≡ 22 → ⊥
@@ -95,6 +112,6 @@ module _ (answers n : ℕ) (t : List ℕ) (h : HoldsReached answers n t) where
       picked Not-22 (lawfulRecord n t) (cond (between 1 (p .0) n) (cond (houseReply reply) said 5) 4) 1
       (λ l.
       picked Not-22 (between 1 (p .0) n) (cond (houseReply reply) said 5) 4
-      (λ e. picked Not-22 (houseReply reply) said 5 (λ r q. its-not-22 (replyMark reply) (sym (reply-reported p e r) ∙ q)) (λ r q. omega arith))
+      (λ e. picked Not-22 (houseReply reply) said 5 (λ r. reported-not-22 (replyMark reply) said (reply-reported p e r)) (λ r q. omega arith))
       (λ e q. omega arith))
       (λ l q. omega arith)

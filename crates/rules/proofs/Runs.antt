@@ -3,11 +3,11 @@ use mathlib.Core.Bool.{Bool, true, false, cond, _&&_}
 use mathlib.Core.List.{List, [], _∷_, _++_, append-assoc, List·Memᴰ·head, List·Memᴰ·tail}
 use mathlib.Core.Path.{_≡_, _∙_, refl, sym, ap, ap₂, subst, subst₂}
 use Prim.Native.Nat.{ℕ, zero, suc, _+_, _*_, _/_, _%_, _≤_}
-use borrow.Author.Tests.{eq-eqb}
+use borrow.Author.Tests.{eq-eqb, eqb-true}
 use lib.Dec.{eqb, leb}
 use lib.ListN.{List·getD-append, drop, getD, length, length-append, length-drop, length-take, take}
-use lib.Seq.{drop-at, take-at}
-use native.Mathlib.Nat.{suc-mul}
+use lib.Seq.{drop-append-le, drop-at, take-append-le, take-at}
+use native.Mathlib.Nat.{suc-add, suc-mul, zero-add}
 use native.Mathlib.Omega.{arith}
 use Rattle.record.proofs.Cut.{length-cut}
 use Rattle.record.specs.Lawful.{between}
@@ -18,17 +18,17 @@ use Rattle.record.specs.Tests.{all}
 use Rattle.rules.proofs.Accepted.{passes}
 use Rattle.rules.proofs.LawfulReached.{reached-room, table-judged, table-lawful}
 use Rattle.rules.proofs.Laid.{full-length}
-use Rattle.rules.proofs.Reached.{played-append}
+use Rattle.rules.proofs.Reached.{played-append, prefix}
 use Rattle.rules.proofs.Reports.{agreed-at, never-22, report-on}
 use Rattle.rules.proofs.Session.{Placed, placed-new, session}
-use Rattle.rules.proofs.Tests.{both}
+use Rattle.rules.proofs.Tests.{both, first}
 use Rattle.rules.proofs.Vouched.{reached-sound}
-use Rattle.rules.specs.Agreed.{itsReport, _∈_}
+use Rattle.rules.specs.Agreed.{Reported, _∈_}
 use Rattle.rules.specs.Gates.{_unless_}
 use Rattle.rules.specs.Promised.{Kept, sessionAfter}
 use Rattle.rules.specs.Reached.{HoldsReached, Reached, seven}
-use Rattle.rules.specs.Report.{houseReply, replyMark}
-use Rattle.rules.specs.Run.{Ran, flat, over, played, run, stepCount, stepWidth, stepsOf, verdicts, wholeSteps}
+use Rattle.rules.specs.Report.{houseReply, replyMark, report}
+use Rattle.rules.specs.Run.{Ran, flat, mostSteps, over, played, run, stepCount, stepWidth, stepsOf, verdicts, wholeSteps}
 use Rattle.rules.specs.Session.{R2, R3, R4, R5, R6, Setting, sessionReply, sessionSteps, step1, step2, step3, step4, step5}
 use Rattle.rules.specs.Step.{Step, judge, newPlace, numberOf, recordAfter}
 
@@ -60,6 +60,24 @@ cut-even zero xs h = refl
 cut-even (suc n) xs h =
     both (eq-eqb (length (take stepWidth xs)) stepWidth (length-take stepWidth xs ∙ omega (arith, suc-mul n stepWidth)))
     (cut-even n (drop stepWidth xs) (omega (arith, length-drop stepWidth xs, suc-mul n stepWidth)))
+
+-- a list that is continued has the same first steps
+cut-append : (n m : ℕ) (xs ys : List ℕ) → length xs ≡ n * stepWidth → cut stepWidth (n + m) (xs ++ ys) ≡ cut stepWidth n xs ++ cut stepWidth m ys
+cut-append zero m [] ys e = ap (λ (k : ℕ). cut stepWidth k ys) (zero-add m)
+cut-append zero m (x ∷ xs) ys e = absurd (omega arith)
+cut-append (suc n) m xs ys e =
+    let most : stepWidth ≤ length xs = omega (arith, suc-mul n stepWidth) in
+    ap (λ (k : ℕ). cut stepWidth k (xs ++ ys)) (suc-add n m)
+    ∙ ap₂ _∷_ (take-append-le stepWidth xs ys most)
+    (ap (cut stepWidth (n + m)) (drop-append-le stepWidth xs ys most)
+    ∙ cut-append n m (drop stepWidth xs) ys (omega (arith, length-drop stepWidth xs, suc-mul n stepWidth)))
+
+steps-append : (xs ys : List ℕ) → wholeSteps xs ≡ true → stepsOf (xs ++ ys) ≡ stepsOf xs ++ stepsOf ys
+steps-append xs ys e =
+    let even = eqb-true (length xs % stepWidth) 0 (first (eqb (length xs % stepWidth) 0) (leb (length xs) (mostSteps * stepWidth)) e) in
+    let counted : stepCount (xs ++ ys) ≡ stepCount xs + stepCount ys = omega (arith, length-append xs ys) in
+    ap (λ (k : ℕ). cut stepWidth k (xs ++ ys)) counted
+    ∙ cut-append (stepCount xs) (stepCount ys) xs ys (omega arith)
 
 -- the verdict of a step is its number against what the steps before it left
 module _ (answers room : ℕ) where
@@ -189,8 +207,8 @@ module _ (answers : ℕ) (t xs bytes : List ℕ) where
             in
             let inside : between 1 (p .0) n ≡ true = ap (between 1 (p .0)) (sym (length-cut messageWidth n after)) ∙ placed-so .inside in (
               done-so,
-              report-on answers n after h p inside (ap houseReply (placed-so .message))
-                  ∙ ap (λ (w : Message). itsReport (replyMark w)) (placed-so .message),
+              subst (λ (w : Message). Reported (replyMark w) (report n after p)) (placed-so .message)
+                  (report-on answers n after h p inside (ap houseReply (placed-so .message))),
             );
       }
 
@@ -198,3 +216,24 @@ module _ (answers : ℕ) (t xs bytes : List ℕ) where
 pub run-keeps : (answers : ℕ) (t xs bytes : List ℕ) → run answers t xs bytes .number ≡ 0 → Kept answers t xs (run answers t xs bytes)
 run-keeps answers t xs bytes z =
     subst (Kept answers t xs) (sym (ran-done answers t xs bytes z)) (done-kept answers t xs bytes (ran-through answers t xs bytes z .0))
+
+-- with the same account answers and room, the messages left by a shorter list are the first messages of what a list that continues it leaves
+pub run-prefix : (answers : ℕ) (t u xs ys bytes more : List ℕ) → roomOf t ≡ roomOf u → run answers t xs bytes .number ≡ 0
+    → run answers u (xs ++ ys) more .number ≡ 0
+    → let shorter = run answers t xs bytes in
+    let longer = run answers u (xs ++ ys) more in
+    messages (shorter .n) (shorter .table) ≡ take (shorter .n) (messages (longer .n) (longer .table))
+run-prefix answers t u xs ys bytes more same-room y z =
+    let shorter = run answers t xs bytes in
+    let left-by = played answers (roomOf t) [] in
+    let short = run-keeps answers t xs bytes y .messages-left in
+    let long = run-keeps answers u (xs ++ ys) more z .messages-left in
+    let counted : length (left-by (stepsOf xs)) ≡ shorter .n =
+    ap length (sym short) ∙ length-cut messageWidth (shorter .n) (shorter .table)
+    in
+    short
+    ∙ sym (prefix answers (roomOf t) (stepsOf xs) (stepsOf ys))
+    ∙ ap₂ take counted
+    (ap left-by (sym (steps-append xs ys (ran-through answers t xs bytes y .1)))
+    ∙ ap (λ (room : ℕ). played answers room [] (stepsOf (xs ++ ys))) same-room
+    ∙ sym long)

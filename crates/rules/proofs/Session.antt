@@ -4,8 +4,6 @@ use mathlib.Core.Bool.{true}
 use mathlib.Core.List.{List, [], _∷_, _++_, Memᴰ·cast}
 use mathlib.Core.Path.{_≡_, _∙_, refl, sym, ap, ap₂, subst}
 use Prim.Native.Nat.{ℕ, _+_, _-_, _≤_, _<_}
-use borrow.Author.Tests.{le-leb, leb-true}
-use lib.Dec.{leb}
 use lib.ListN.{List·getD-append, length, length-append, take}
 use lib.Seq.{getD-at, take-append-seam}
 use native.Mathlib.Omega.{arith}
@@ -23,8 +21,8 @@ use Rattle.rules.proofs.Claims.{Facts, claimed}
 use Rattle.rules.proofs.Deeds.{member-place}
 use Rattle.rules.proofs.Reached.{grown}
 use Rattle.rules.proofs.Reports.{agreed-report}
-use Rattle.rules.proofs.Tests.{both, first, second}
-use Rattle.rules.specs.Agreed.{Agreed, _∈_}
+use Rattle.rules.proofs.Tests.{both, bounded, bounds}
+use Rattle.rules.specs.Agreed.{Agreed, Reported, _∈_}
 use Rattle.rules.specs.Honest.{askClaims, asked, holds, invoiceClaims, invoiced, paid, payClaims, replied, replyClaims, started}
 use Rattle.rules.specs.Items.{isKind}
 use Rattle.rules.specs.Report.{itsInitiate, itsInvoice, itsPayment, itsRequest, reportOn}
@@ -42,20 +40,17 @@ placed-member {R} {p} h = Memᴰ·cast (sym (h .message)) (member-place R (p .0)
 
 placed-in : (R rest : Record) (p : Place) (x : Message) → Placed R p x → Placed (R ++ rest) p x
 placed-in R rest p x h =
-    let least = leb-true 1 (p .0) (first (leb 1 (p .0)) (leb (p .0) (length R)) (h .inside)) in
-    let most = leb-true (p .0) (length R) (second (leb 1 (p .0)) (leb (p .0) (length R)) (h .inside)) in
+    let b = bounds 1 (p .0) (length R) (h .inside) in
     record {
       message = List·getD-append R rest [] (p .0 - 1) (omega arith) ∙ h .message;
-      inside = both (le-leb 1 (p .0) least) (le-leb (p .0) (length (R ++ rest)) (omega (arith, length-append R rest)));
+      inside = bounded 1 (p .0) (length (R ++ rest)) (b .0) (omega (arith, length-append R rest));
     }
 
 placed-end : (R : Record) (x : Message) → Placed (R ++ (x ∷ [])) (newPlace R) x
 placed-end R x =
     record {
       message = getD-at R x [] [] (length R + 1 - 1) (omega arith);
-      inside =
-          both (le-leb 1 (length R + 1) (omega arith))
-          (le-leb (length R + 1) (length (R ++ (x ∷ []))) (omega (arith, length-append R (x ∷ []))));
+      inside = bounded 1 (length R + 1) (length (R ++ (x ∷ []))) (omega arith) (omega (arith, length-append R (x ∷ [])));
     }
 
 module _ (answers room : ℕ) where
@@ -250,6 +245,7 @@ module _ (c : Setting) (buyer✓ : within buyers (c .buyer .0) ≡ true) (seller
           reported =
               λ after5.
               let more = grown (c .answers) (c .room) (R5 c) (step5 c ∷ after5) in
-              ap (λ (R : Record). reportOn R x) (ap (take (length (R5 c))) (more .1) ∙ take-append-seam (R5 c) (more .0))
-              ∙ agreed-report (R5 c) x (λ out. session-agreed);
+              subst (λ (R : Record). Reported x (reportOn R x))
+              (sym (ap (take (length (R5 c))) (more .1) ∙ take-append-seam (R5 c) (more .0)))
+              (agreed-report (R5 c) x (λ out. session-agreed));
         }

@@ -17,10 +17,10 @@ use Rattle.record.specs.declared.parts.Seller.{Seller}
 use Rattle.record.specs.declared.signed.BuyerSigned.{BuyerSigned}
 use Rattle.record.specs.declared.signed.RequestSigned.{RequestSigned}
 use Rattle.rules.proofs.Claims.{facts, the-buyer, the-mark, the-seller, the-slip}
-use Rattle.rules.proofs.Deeds.{Taken, by-deed, copied-from, named}
+use Rattle.rules.proofs.Deeds.{Taken, by-deed, copied-from, named, two-named}
 use Rattle.rules.proofs.Laid.{one-kind, relaid}
 use Rattle.rules.proofs.Reached.{kept-reached}
-use Rattle.rules.proofs.Tests.{first, other, picked, second}
+use Rattle.rules.proofs.Tests.{other, picked}
 use Rattle.rules.specs.Agreed.{_∈_}
 use Rattle.rules.specs.Codes.{Argument, Deed, Item, asks, forges, invoices, pays, replies, starts}
 use Rattle.rules.specs.Forged.{buyerSignature, copied, given, gives, mark, noBuyer, noSeller, requestSignature, slip}
@@ -156,22 +156,22 @@ module _ (answers room : ℕ) (R : Record) (ks : List Argument) (xs : List ℕ) 
     payment-sound new t =
         let B = theBuyer R ks xs in
         let I = theInitiate R ks xs in
-        let V′ = theInvoice R ks xs in
+        let J = theInvoice R ks xs in
         let S = sellerAt I destination in
         let x = orderMark B I in
-        let i = the-one t Initiate (first (gives (Argument.the Initiate) ks) (gives (Argument.the Invoice) ks) (t .complete-row)) in
-        let v = the-one t Invoice (second (gives (Argument.the Initiate) ks) (gives (Argument.the Invoice) ks) (t .complete-row)) in
-        let f = facts (payClaims B I V′) (t .passed .claimed) in
+        let i = the-one t Initiate (two-named ks Initiate Invoice (t .complete-row) .0) in
+        let j = the-one t Invoice (two-named ks Initiate Invoice (t .complete-row) .1) in
+        let f = facts (payClaims B I J) (t .passed .claimed) in
         let made : B ≡ buyerAt I maker = sym (the-buyer (f .0)) in
         let sent : B ≡ buyerAt I source = sym (the-buyer (f .1 .0)) in
-        let from-seller : S ≡ sellerAt V′ source = sym (the-seller (f .1 .1 .1 .0)) in
-        let to-him : B ≡ buyerAt V′ destination = sym (the-buyer (f .1 .1 .1 .1 .0)) in
-        let over : x ≡ markAt V′ body = sym (the-mark (f .1 .1 .1 .1 .1 .0)) in
-        let signer : S ≡ sellerAt V′ invoiceSigned = sym (the-seller (f .1 .1 .1 .1 .1 .1 .0)) in
-        let signed : x ≡ markAt V′ (invoiceSigned + 1) = sym (the-mark (f .1 .1 .1 .1 .1 .1 .1 .0)) in
+        let from-seller : S ≡ sellerAt J source = sym (the-seller (f .1 .1 .1 .0)) in
+        let to-him : B ≡ buyerAt J destination = sym (the-buyer (f .1 .1 .1 .1 .0)) in
+        let over : x ≡ markAt J body = sym (the-mark (f .1 .1 .1 .1 .1 .0)) in
+        let signer : S ≡ sellerAt J invoiceSigned = sym (the-seller (f .1 .1 .1 .1 .1 .1 .0)) in
+        let signed : x ≡ markAt J (invoiceSigned + 1) = sym (the-mark (f .1 .1 .1 .1 .1 .1 .1 .0)) in
         let own-so : itsInitiate x ≡ relaid Initiate I = λ k. anInitiate (made k) (sent k) S (hashedAt I body) in
-        let sent-so : anInvoice (sellerAt V′ maker) S B x (record { signer = S; mark = x }) ≡ relaid Invoice V′ =
-        λ k. anInvoice (sellerAt V′ maker) (from-seller k) (to-him k) (over k) (record { signer = signer k; mark = signed k })
+        let sent-so : anInvoice (sellerAt J maker) S B x (record { signer = S; mark = x }) ≡ relaid Invoice J =
+        λ k. anInvoice (sellerAt J maker) (from-seller k) (to-him k) (over k) (record { signer = signer k; mark = signed k })
         in
         record {
           kind = Payment;
@@ -182,7 +182,7 @@ module _ (answers room : ℕ) (R : Record) (ks : List Argument) (xs : List ℕ) 
               record {
                 initiate = grows _ (Memᴰ·cast (own-so ∙ sym (i .1)) (i .0));
                 payment = new;
-                invoice = (sellerAt V′ maker, grows _ (Memᴰ·cast (sent-so ∙ sym (v .1)) (v .0)));
+                invoice = (sellerAt J maker, grows _ (Memᴰ·cast (sent-so ∙ sym (j .1)) (j .0)));
               };
         }
 
@@ -190,16 +190,16 @@ module _ (answers room : ℕ) (R : Record) (ks : List Argument) (xs : List ℕ) 
     request-sound : (added R ks xs answers asks ∈ T) → Taken room R asks ks xs → Sound T (added R ks xs answers asks)
     request-sound new t =
         let S = theSeller R ks xs in
-        let V′ = theInvoice R ks xs in
+        let J = theInvoice R ks xs in
         let P = thePayment R ks xs in
-        let x = markAt V′ body in
+        let x = markAt J body in
         let y = slipAt P body in
-        let v = the-one t Invoice (first (gives (Argument.the Invoice) ks) (gives (Argument.the Payment) ks) (t .complete-row)) in
-        let p = the-one t Payment (second (gives (Argument.the Invoice) ks) (gives (Argument.the Payment) ks) (t .complete-row)) in
-        let f = facts (askClaims S V′ P) (t .passed .claimed) in
-        let made : sellerAt V′ maker ≡ S = the-seller (f .0) in
+        let j = the-one t Invoice (two-named ks Invoice Payment (t .complete-row) .0) in
+        let p = the-one t Payment (two-named ks Invoice Payment (t .complete-row) .1) in
+        let f = facts (askClaims S J P) (t .passed .claimed) in
+        let made : sellerAt J maker ≡ S = the-seller (f .0) in
         let seller : x .seller ≡ S = the-seller (f .1 .1 .0) in
-        let buyer : x .buyer ≡ buyerAt V′ destination = the-buyer (f .1 .1 .1 .0) in
+        let buyer : x .buyer ≡ buyerAt J destination = the-buyer (f .1 .1 .1 .0) in
         let from-buyer : x .buyer ≡ buyerAt P source = buyer ∙ sym (the-buyer (f .1 .1 .1 .1 .0)) in
         let to-him : x .seller ≡ sellerAt P destination = seller ∙ sym (the-seller (f .1 .1 .1 .1 .1 .0)) in
         let signer : x .buyer ≡ buyerAt P paymentSigned = buyer ∙ sym (the-buyer (f .1 .1 .1 .1 .1 .1 .0)) in
@@ -215,9 +215,9 @@ module _ (answers room : ℕ) (R : Record) (ks : List Argument) (xs : List ℕ) 
           vouched = (
             λ h. buyer-grows grows (p .2 h),
             λ h.
-                let own = v .2 (λ e. h (sym (ap (λ (s : Seller). s .0) made) ∙ e)) in
+                let own = j .2 (λ e. h (sym (ap (λ (s : Seller). s .0) made) ∙ e)) in
                 record {
-                  invoice = grows _ (Memᴰ·cast (sym (own .says)) (v .0));
+                  invoice = grows _ (Memᴰ·cast (sym (own .says)) (j .0));
                   request = Memᴰ·cast (λ k. requestBy (seller k) x y (signed-so k)) new;
                   initiate = (own .initiate .0, grows _ (own .initiate .1));
                   payment = (

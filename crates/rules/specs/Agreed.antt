@@ -1,12 +1,11 @@
 -- What buyer and seller of a payment have agreed on when the house replies: the four messages of the payment stand in the record.
 use Prim.Native.Nat.{ℕ}
-use mathlib.Core.Bool.{cond}
 use mathlib.Core.List.{List·Memᴰ}
 use mathlib.Core.Path.{_≡_}
 use Rattle.record.specs.Parts.{Message}
 use Rattle.record.specs.Table.{Record}
 use Rattle.record.specs.declared.parts.Mark.{Mark}
-use Rattle.rules.specs.Report.{itsInitiate, itsInvoice, itsPayment, itsRequest, outside}
+use Rattle.rules.specs.Report.{itsInitiate, itsInvoice, itsPayment, itsRequest}
 
 -- a message stands in a record
 infix 40 _∈_
@@ -22,6 +21,11 @@ pub record Agreed (x : Mark) (R : Record) : Type 0 where
   pub payment : itsPayment x ∈ R
   pub request : itsRequest x ∈ R
 
--- what is then reported of it: 21 if buyer and seller are both the outsider, else 20
-abbrev pub itsReport : Mark → ℕ
-itsReport x = cond (outside x) 21 20
+-- buyer and seller of it are both the outsider
+abbrev pub BothOutside : Mark → Type 0
+BothOutside x = (x .buyer .0 ≡ 0) × (x .seller .0 ≡ 0)
+
+-- what the report on a reply with this mark has to say
+pub record Reported (x : Mark) (number : ℕ) : Type 0 where
+  pub agreed : ¬ BothOutside x → number ≡ 20
+  pub outsider : BothOutside x → number ≡ 21

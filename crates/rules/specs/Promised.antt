@@ -1,6 +1,6 @@
 -- What the promise of a run gives about the table and the verdict bytes that it leaves.
 use Prim.Native.Nat.{ℕ, _-_, _<_}
-use mathlib.Core.Bool.{false, true}
+use mathlib.Core.Bool.{true}
 use mathlib.Core.List.{List, [], _∷_, _++_}
 use mathlib.Core.Path.{_≡_}
 use lib.ListN.{getD, length, take}
@@ -9,8 +9,8 @@ use Rattle.record.specs.Table.{Record, lawfulRecord, messageAt, messages, roomO
 use Rattle.record.specs.declared.parts.Buyer.{Buyer}
 use Rattle.record.specs.declared.parts.Place.{Place}
 use Rattle.record.specs.declared.parts.Seller.{Seller}
-use Rattle.rules.specs.Agreed.{Agreed, itsReport}
-use Rattle.rules.specs.Report.{houseReply, outside, replyMark, report}
+use Rattle.rules.specs.Agreed.{Agreed, BothOutside, Reported}
+use Rattle.rules.specs.Report.{houseReply, replyMark, report}
 use Rattle.rules.specs.Run.{Ran, played, stepsOf}
 use Rattle.rules.specs.Session.{R5, Session, Setting, sessionMark, sessionSteps}
 use Rattle.rules.specs.Step.{Step, judge, judgeTable, newPlace, numberOf}
@@ -50,14 +50,14 @@ module _ (answers : ℕ) (t xs : List ℕ) (ran : Ran) where
     pub judged : (s : Step) → judgeTable answers (ran .n) (ran .table) s ≡ judge answers (roomOf t) left s
     -- agreement at each house reply whose buyer and seller are not both 0
     pub agreed : (p : Place) → between 1 (p .0) (ran .n) ≡ true → houseReply (messageAt left p) ≡ true
-        → outside (replyMark (messageAt left p)) ≡ false → Agreed (replyMark (messageAt left p)) (take (p .0 - 1) left)
+        → ¬ BothOutside (replyMark (messageAt left p)) → Agreed (replyMark (messageAt left p)) (take (p .0 - 1) left)
     -- the report there is 20, or 21 for the outsider with himself; 22 never occurs
     pub reported : (p : Place) → between 1 (p .0) (ran .n) ≡ true → houseReply (messageAt left p) ≡ true
-        → report (ran .n) (ran .table) p ≡ itsReport (replyMark (messageAt left p))
+        → Reported (replyMark (messageAt left p)) (report (ran .n) (ran .table) p)
     pub never-22 : (p : Place) → report (ran .n) (ran .table) p ≡ 22 → ⊥
     -- where the steps hold a session of any buyer and seller, with any steps before, between and after its own, and there was room: its
     -- five steps were accepted, and its reply is reported
     pub sessions : (l0 l1 l2 l3 l4 l5 : List Step) (B : Buyer) (S : Seller) → within buyers (B .0) ≡ true → within sellers (S .0) ≡ true
         → let c = sessionAfter l0 B S l1 l2 l3 l4 in
         stepsOf xs ≡ l0 ++ sessionSteps c l5 → length (R5 c) < roomOf t
-        → Session c × (report (ran .n) (ran .table) (newPlace (R5 c)) ≡ itsReport (sessionMark c))
+        → Session c × Reported (sessionMark c) (report (ran .n) (ran .table) (newPlace (R5 c)))

@@ -10,7 +10,7 @@ use Rattle.record.specs.Table.{Record, messageAt}
 use Rattle.record.specs.declared.parts.Buyer.{Buyer}
 use Rattle.record.specs.declared.parts.Mark.{Mark}
 use Rattle.record.specs.declared.parts.Seller.{Seller}
-use Rattle.rules.specs.Agreed.{itsReport}
+use Rattle.rules.specs.Agreed.{Reported}
 use Rattle.rules.specs.Honest.{codeFor, house, replyBy}
 use Rattle.rules.specs.Report.{itsInitiate, itsInvoice, itsPayment, itsRequest, replyMark, reportOn}
 use Rattle.rules.specs.Run.{played, stepWidth}
@@ -97,4 +97,4 @@ module _ (c : Setting) where
     pub asks : judged R4 step4 ≡ accepted (itsRequest sessionMark)
     pub replies : judged R5 step5 ≡ accepted sessionReply
     pub reply : (after5 : List Step) → messageAt (R6 after5) (newPlace R5) ≡ sessionReply
-    pub reported : (after5 : List Step) → reportOn (take (length R5) (R6 after5)) (replyMark sessionReply) ≡ itsReport sessionMark
+    pub reported : (after5 : List Step) → Reported sessionMark (reportOn (take (length R5) (R6 after5)) (replyMark sessionReply))
