@@ -21,7 +21,7 @@ use Rattle.rules.proofs.Claims.{facts, the-buyer, the-gateway, the-mark
 use Rattle.rules.proofs.Deeds.{Taken, by-deed, named}
 use Rattle.rules.proofs.Laid.{relaid}
 use Rattle.rules.proofs.Reached.{history}
-use Rattle.rules.proofs.Vouched.{BuyerVouched, InitiateSent, InvoiceSent, PaymentSent, SellerVouched, Sound, reached-sound, sound-as}
+use Rattle.rules.proofs.Vouched.{AllSound, BuyerVouched, InitiateSent, InvoiceSent, PaymentSent, SellerVouched, reached-sound, sound-as}
 use Rattle.rules.specs.Agreed.{Agreed, BothOutside, _∈_}
 use Rattle.rules.specs.Codes.{Argument, Deed, asks, forges, invoices, pays, replies, starts}
 use Rattle.rules.specs.Honest.{holds, house, rebuilt, replyClaims}
@@ -85,7 +85,7 @@ no-buyer p q = λ k. record { 0 = (p ∙ sym q) k }
 no-seller : {a b : Seller} → a .0 ≡ 0 → b .0 ≡ 0 → a ≡ b
 no-seller p q = λ k. record { 0 = (p ∙ sym q) k }
 
-module _ (R : Record) (sound : (w : Message) → w ∈ R → Sound R w) where
+module _ (R : Record) (sound : AllSound R) where
   own-initiate : (x : Mark) → x .buyer .0 ≡ 0 → InitiateSent R x → itsInitiate x ∈ R
   own-initiate x z i =
       Memᴰ·cast (λ k. anInitiate (no-buyer {a = x .buyer} {b = i .0} z (sound _ (i .1) .sent z) k) (x .buyer) (x .seller) (x .hashed)) (i .1)
@@ -159,7 +159,7 @@ module _ (R : Record) (sound : (w : Message) → w ∈ R → Sound R w) where
 abbrev AgreedOn : Record → Message → Type 0
 AgreedOn R x = houseReply x ≡ true → ¬ BothOutside (replyMark x) → Agreed (replyMark x) R
 
-module _ (answers room : ℕ) (R : Record) (ks : List Argument) (xs : List ℕ) (sound : (w : Message) → w ∈ R → Sound R w) where
+module _ (answers room : ℕ) (R : Record) (ks : List Argument) (xs : List ℕ) (sound : AllSound R) where
   deed-agreed : (d : Deed) → Taken room R d ks xs → AgreedOn R (added R ks xs answers d)
   deed-agreed starts t h n = absurd (false≢true h)
   deed-agreed invoices t h n = absurd (false≢true h)

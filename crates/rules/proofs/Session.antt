@@ -68,7 +68,7 @@ module _ (answers room : ℕ) where
   longer : (R : Record) (ss : List Step) → length R ≤ length (played answers room R ss)
   longer R ss = let more = grown answers room R ss in omega (arith, ap length (more .1), length-append R (more .0))
 
-  -- the five steps, each on a record that has the messages which it names
+  -- the five steps, each on a record that has the Initiate I, Invoice J, Payment P or Auth-Request Q which it names
   module _ (B : Buyer) (S : Seller) (buyer✓ : within buyers (B .0) ≡ true) (seller✓ : within sellers (S .0) ≡ true) where
     takes1 : (R : Record) → length R < room → judge answers room R (stepOf 1 (B .0 ∷ S .0 ∷ [])) ≡ accepted (started B S (newPlace R))
     takes1 R roomy =

@@ -77,11 +77,15 @@ module _ (R : Record) where
   Vouched AuthRequest w = BuyerVouched (buyerSignedAt w requestBuyerSigned) × SellerVouched (requestSignedAt w requestSigned)
   Vouched AuthResponse w = Unit {0}
 
+  -- what is kept of a message: it is laid out as its kind, sent by 0 only if made by 0, and its signatures vouch
   pub record Sound (w : Message) : Type 0 where
     pub kind : Kind
     pub laid : w ≡ relaid kind w
     pub sent : getD w source 0 ≡ 0 → getD w maker 0 ≡ 0
     pub vouched : Vouched kind w
+
+abbrev pub AllSound : Record → Type 0
+AllSound R = (w : Message) → w ∈ R → Sound R w
 
 -- a longer record keeps it
 module _ {R T : Record} (grows : (w : Message) → w ∈ R → w ∈ T) where
@@ -121,8 +125,8 @@ pub sound-as : (R : Record) (k : Kind) (w : Message) → Sound R w → isKind k 
 sound-as R k w e h =
     subst (λ (j : Kind). (w ≡ relaid j w) × Vouched R j w) (one-kind (e .kind) k w (e .laid) h) (e .laid, e .vouched)
 
--- the message that an accepted step adds to a record of sound messages
-module _ (answers room : ℕ) (R : Record) (ks : List Argument) (xs : List ℕ) (sound : (w : Message) → w ∈ R → Sound R w) where
+-- the message that an accepted step adds to a record of sound messages; I, J and P are the Initiate, the Invoice and the Payment that it names
+module _ (answers room : ℕ) (R : Record) (ks : List Argument) (xs : List ℕ) (sound : AllSound R) where
   module _ (T : Record) (grows : (w : Message) → w ∈ R → w ∈ T) where
     -- a message that the step names
     the-one : {d : Deed} → Taken room R d ks xs → (k : Kind) → gives (Argument.the k) ks ≡ true
@@ -264,9 +268,6 @@ module _ (answers room : ℕ) (R : Record) (ks : List Argument) (xs : List ℕ) 
     added-sound (forges AuthRequest) new t =
         record { kind = AuthRequest; laid = refl; sent = λ e. refl; vouched = (forged-buyer t, forged-seller t) }
     added-sound (forges AuthResponse) new t = record { kind = AuthResponse; laid = refl; sent = λ e. refl; vouched = tt }
-
-abbrev AllSound : Record → Type 0
-AllSound R = (w : Message) → w ∈ R → Sound R w
 
 step-sound : (answers room : ℕ) (R : Record) (s : Step) (x : Message) → length s ≡ stepWidth → AllSound R
     → judge answers room R s ≡ accepted x → AllSound (R ++ (x ∷ []))
