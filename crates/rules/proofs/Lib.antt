@@ -1,1 +1,15 @@
+pub mod Accepted
+pub mod Agreement
+pub mod Arguments
+pub mod Claims
+pub mod Deeds
+pub mod Laid
+pub mod LawfulReached
 pub mod Lists
+pub mod Ranges
+pub mod Reached
+pub mod Reports
+pub mod Runs
+pub mod Session
+pub mod Tests
+pub mod Vouched

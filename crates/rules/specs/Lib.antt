@@ -1,9 +1,13 @@
+pub mod Agreed
 pub mod Codes
 pub mod Forged
 pub mod Gates
 pub mod Honest
 pub mod Items
 pub mod Lists
+pub mod Promised
+pub mod Reached
 pub mod Report
 pub mod Run
+pub mod Session
 pub mod Step

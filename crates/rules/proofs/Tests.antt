@@ -1,0 +1,89 @@
+-- Laws of the tests that the definitions are made of: what a chain, a test of each element and a comparison say when they pass,
+-- and when they pass.
+use mathlib.Core.Bool.{Bool, true, false, cond, _&&_, _||_, false≢true, true≢false}
+use mathlib.Core.List.{
+  List,
+  List·Memᴰ,
+  List·Memᴰ·cases-cons,
+  List·Memᴰ·head,
+  List·Memᴰ·not-nil,
+  List·Memᴰ·tail,
+  [],
+  _++_,
+  _∷_,
+}
+use mathlib.Core.Logic.{_⊎_, inl, inr, ⊎-elim}
+use mathlib.Core.Path.{_≡_, _∙_, refl, ap, ap₂, subst}
+use Prim.Native.Nat.{ℕ, zero, suc, _≤_, _<_}
+use borrow.Author.Tests.{eq-eqb, eqb-true, le-leb, leb-true}
+use lib.Dec.{eqb, leb}
+use lib.ListN.{getD, length}
+use native.Mathlib.Nat.{le-of-suc-le-suc, not-suc-le-zero}
+use Rattle.record.specs.Lawful.{between}
+use Rattle.record.specs.Tests.{all, same}
+
+-- both, and its two halves
+pub both : {a b : Bool} → a ≡ true → b ≡ true → (a && b) ≡ true
+both {a} {b} p q = ap₂ (λ (x y : Bool). x && y) p q
+
+pub first : (a b : Bool) → (a && b) ≡ true → a ≡ true
+first true b e = refl
+first false b e = absurd (false≢true e)
+
+pub second : (a b : Bool) → (a && b) ≡ true → b ≡ true
+second true b e = e
+second false b e = absurd (false≢true e)
+
+pub either : (a b : Bool) → (a || b) ≡ true → (a ≡ true) ⊎ (b ≡ true)
+either true b e = inl refl
+either false b e = inr e
+
+pub other : (a b : Bool) → (a || b) ≡ true → a ≡ false → b ≡ true
+other true b e f = absurd (true≢false f)
+other false b e f = e
+
+-- a number between two
+pub bounds : (a x b : ℕ) → between a x b ≡ true → (a ≤ x) × (x ≤ b)
+bounds a x b e = (leb-true a x (first (leb a x) (leb x b) e), leb-true x b (second (leb a x) (leb x b) e))
+
+pub bounded : (a x b : ℕ) → a ≤ x → x ≤ b → between a x b ≡ true
+bounded a x b p q = both (le-leb a x p) (le-leb x b q)
+
+-- what holds of both branches
+pub picked : {A : Type 0} (P : A → Type 0) (b : Bool) (x y : A) → (b ≡ true → P x) → (b ≡ false → P y) → P (cond b x y)
+picked P true x y yes′ no′ = yes′ refl
+picked P false x y yes′ no′ = no′ refl
+
+-- a test of each element of a list: as a fact for each, of two lists joined, and at one element
+abbrev pub Each : {A : Type 0} → (A → Bool) → List A → Type 0
+Each f [] = Unit {0}
+Each f (x ∷ xs) = (f x ≡ true) × Each f xs
+
+pub all-append : {A : Type 0} (f : A → Bool) (xs ys : List A) → all f xs ≡ true → all f ys ≡ true → all f (xs ++ ys) ≡ true
+all-append f [] ys p q = q
+all-append f (x ∷ xs) ys p q = both (first (f x) (all f xs) p) (all-append f xs ys (second (f x) (all f xs) p) q)
+
+pub all-member : {A : Type 0} (f : A → Bool) (xs : List A) (x : A) → all f xs ≡ true → List·Memᴰ x xs → f x ≡ true
+all-member f [] x e m = absurd (List·Memᴰ·not-nil m)
+all-member f (y ∷ ys) x e m =
+    ⊎-elim (λ p. ap f p ∙ first (f y) (all f ys) e) (λ n. all-member f ys x (second (f y) (all f ys) e) n) (List·Memᴰ·cases-cons m)
+
+pub member-at : {A : Type 0} (xs : List A) (d : A) (i : ℕ) → i < length xs → List·Memᴰ (getD xs i d) xs
+member-at [] d i h = absurd (not-suc-le-zero h)
+member-at (x ∷ xs) d zero h = List·Memᴰ·head refl
+member-at (x ∷ xs) d (suc i) h = List·Memᴰ·tail (member-at xs d i (le-of-suc-le-suc h))
+
+-- the same numbers are the same list
+pub same-eq : (xs ys : List ℕ) → same xs ys ≡ true → xs ≡ ys
+same-eq [] [] e = refl
+same-eq [] (y ∷ ys) e = absurd (false≢true e)
+same-eq (x ∷ xs) [] e = absurd (false≢true e)
+same-eq (x ∷ xs) (y ∷ ys) e =
+    ap₂ _∷_ (eqb-true x y (first (eqb x y) (same xs ys) e)) (same-eq xs ys (second (eqb x y) (same xs ys) e))
+
+pub same-refl : (xs : List ℕ) → same xs xs ≡ true
+same-refl [] = refl
+same-refl (x ∷ xs) = both (eq-eqb x x refl) (same-refl xs)
+
+pub eq-same : {xs ys : List ℕ} → xs ≡ ys → same xs ys ≡ true
+eq-same {xs} e = subst (λ (zs : List ℕ). same xs zs ≡ true) e (same-refl xs)

@@ -1,0 +1,100 @@
+-- An honest session: steps 1 to 5 for one buyer and one seller, each naming the messages that the session's earlier steps added, with any
+-- lists of other steps between them.
+use Prim.Native.Nat.{ℕ}
+use mathlib.Core.List.{List, [], _∷_, _++_}
+use mathlib.Core.Path.{_≡_}
+use lib.ListN.{length, take}
+use Rattle.record.specs.Layout.{filled}
+use Rattle.record.specs.Parts.{Message, accountOf}
+use Rattle.record.specs.Table.{Record, messageAt}
+use Rattle.record.specs.declared.parts.Buyer.{Buyer}
+use Rattle.record.specs.declared.parts.Mark.{Mark}
+use Rattle.record.specs.declared.parts.Seller.{Seller}
+use Rattle.rules.specs.Agreed.{Reported}
+use Rattle.rules.specs.Honest.{codeFor, house, replyBy}
+use Rattle.rules.specs.Report.{itsInitiate, itsInvoice, itsPayment, itsRequest, replyMark, reportOn}
+use Rattle.rules.specs.Run.{played, stepWidth}
+use Rattle.rules.specs.Step.{Outcome, Step, accepted, judge, newPlace}
+
+-- a code and its arguments; unused ones are 0
+abbrev pub stepOf : ℕ → List ℕ → Step
+stepOf code xs = filled stepWidth 0 (code ∷ xs)
+
+-- the parties, the record from which they start, and the other steps that are played after each of their first four
+pub record Setting : Type 0 where
+  pub answers : ℕ
+  pub room : ℕ
+  pub buyer : Buyer
+  pub seller : Seller
+  pub R1 : Record
+  pub after1 : List Step
+  pub after2 : List Step
+  pub after3 : List Step
+  pub after4 : List Step
+
+-- step k is taken on the record Rk and adds the message at the new place of Rk
+module _ (c : Setting) where
+  abbrev on : Record → List Step → Record
+  on = played (c .answers) (c .room)
+
+  abbrev pub step1 : Step
+  step1 = stepOf 1 (c .buyer .0 ∷ c .seller .0 ∷ [])
+
+  abbrev pub R2 : Record
+  R2 = on (c .R1) (step1 ∷ c .after1)
+
+  abbrev pub step2 : Step
+  step2 = stepOf 2 (c .seller .0 ∷ newPlace (c .R1) .0 ∷ [])
+
+  abbrev pub R3 : Record
+  R3 = on R2 (step2 ∷ c .after2)
+
+  abbrev pub step3 : Step
+  step3 = stepOf 3 (c .buyer .0 ∷ newPlace (c .R1) .0 ∷ newPlace R2 .0 ∷ [])
+
+  abbrev pub R4 : Record
+  R4 = on R3 (step3 ∷ c .after3)
+
+  abbrev pub step4 : Step
+  step4 = stepOf 4 (c .seller .0 ∷ newPlace R2 .0 ∷ newPlace R3 .0 ∷ [])
+
+  abbrev pub R5 : Record
+  R5 = on R4 (step4 ∷ c .after4)
+
+  abbrev pub step5 : Step
+  step5 = stepOf 5 (newPlace R4 .0 ∷ [])
+
+  -- the record when other steps are played after the fifth
+  abbrev pub R6 : List Step → Record
+  R6 after5 = on R5 (step5 ∷ after5)
+
+  -- all of it as one list
+  abbrev pub sessionSteps : List Step → List Step
+  sessionSteps after5 =
+      step1
+      ∷ (c .after1 ++ (step2 ∷ (c .after2 ++ (step3 ∷ (c .after3 ++ (step4 ∷ (c .after4 ++ (step5 ∷ after5))))))))
+
+  -- the mark of the payment, and the reply to it
+  abbrev pub sessionMark : Mark
+  sessionMark =
+      record {
+        seller = c .seller;
+        buyer = c .buyer;
+        hashed = record { drawn = record { drawer = c .buyer; draw = newPlace (c .R1) .0 }; account = accountOf (c .buyer) };
+      }
+
+  abbrev pub sessionReply : Message
+  sessionReply = replyBy house (c .seller) (codeFor (c .answers) (accountOf (c .buyer))) sessionMark
+
+  abbrev judged : Record → Step → Outcome
+  judged = judge (c .answers) (c .room)
+
+  -- each step is accepted and adds the session's message, and the reply is reported, whatever is played afterwards
+  pub record Session : Type 0 where
+    pub starts : judged (c .R1) step1 ≡ accepted (itsInitiate sessionMark)
+    pub invoices : judged R2 step2 ≡ accepted (itsInvoice sessionMark)
+    pub pays : judged R3 step3 ≡ accepted (itsPayment sessionMark)
+    pub asks : judged R4 step4 ≡ accepted (itsRequest sessionMark)
+    pub replies : judged R5 step5 ≡ accepted sessionReply
+    pub reply : (after5 : List Step) → messageAt (R6 after5) (newPlace R5) ≡ sessionReply
+    pub reported : (after5 : List Step) → Reported sessionMark (reportOn (take (length R5) (R6 after5)) (replyMark sessionReply))
