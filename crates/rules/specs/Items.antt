@@ -111,8 +111,8 @@ holding R Argument.a x = eqb x 0 || readable (messageAt R (record { 0 = x }))
 holding R (Argument.the k) x = isKind k (messageAt R (record { 0 = x }))
 holding R (Argument.at i) x = yields i (messageAt R (record { 0 = x }))
 
--- a test of each argument of a step
+-- a test of each argument that a row has; one that is left off is 0
 abbrev pub eachArgument : (Argument → ℕ → Bool) → List Argument → List ℕ → Bool
 eachArgument f [] xs = true
-eachArgument f (k ∷ ks) [] = true
+eachArgument f (k ∷ ks) [] = f k 0 && eachArgument f ks []
 eachArgument f (k ∷ ks) (x ∷ xs) = f k x && eachArgument f ks xs

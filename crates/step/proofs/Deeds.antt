@@ -70,7 +70,8 @@ wider n m h (Argument.at i) x e =
 
 all-wider : (n m : ℕ) → n ≤ m → (ks : List Argument) (xs : List ℕ) → eachArgument (placed n) ks xs ≡ true → eachArgument (placed m) ks xs ≡ true
 all-wider n m h [] xs e = refl
-all-wider n m h (k ∷ ks) [] e = refl
+all-wider n m h (k ∷ ks) [] e =
+    sym (skip (wider n m h k 0 (left-of (placed n k 0) _ e)) (sym (all-wider n m h ks [] (right-of (placed n k 0) _ e))))
 all-wider n m h (k ∷ ks) (x ∷ xs) e =
     sym (skip (wider n m h k x (left-of (placed n k x) _ e)) (sym (all-wider n m h ks xs (right-of (placed n k x) _ e))))
 
