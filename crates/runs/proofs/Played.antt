@@ -205,6 +205,7 @@ over-and-done answers t₀ xs bytes₀ t bytes n i going e =
       verdicts-left =
           going .so-far
           ∙ ap₂ (λ (z : List ℕ) (k : ℕ). z ++ drop k bytes₀) (take-all i said (le-of-eq many)) (zero-add i ∙ sym many);
+      within = going .room;
     }
 
 -- a table stays whole while its length does

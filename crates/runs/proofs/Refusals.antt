@@ -2,13 +2,15 @@
 use mathlib.Core.Bool.{Bool, true, false}
 use mathlib.Core.List.{List, []}
 use mathlib.Core.Path.{_≡_, _∙_, refl, sym, subst}
-use Prim.Native.Nat.{ℕ}
+use Prim.Native.Nat.{ℕ, zero-le}
+use native.Mathlib.Omega.{arith}
 use lib.Dec.{leb}
 use lib.ListN.{length}
 use Rattle.record.specs.Table.{roomOf, whole}
 use Rattle.rules.specs.Run.{Ran as RanOf, flat, over, played, run, stepCount, stepsOf, verdicts, wholeSteps}
 use Rattle.runs.specs.Ran.{Leaves, Plays}
 use Rattle.runs.specs.declared.run.Ran.the-variants.{Messages, Refused}
+use Rattle.step.proofs.Outcomes.{most}
 use Rattle.step.proofs.Picks.{no, yes}
 
 module _ (answers : ℕ) (t xs bytes : List ℕ) where
@@ -18,7 +20,7 @@ module _ (answers : ℕ) (t xs bytes : List ℕ) where
   refuses : (k : ℕ) → run answers t xs bytes ≡ nothing k → Leaves (run answers t xs bytes) (Refused k) t bytes
   unfolding nothing
   refuses k e =
-      subst (λ (o : RanOf). Leaves o (Refused k) t bytes) (sym e) (record { number = refl; n = refl; table-left = refl; bytes-left = refl })
+      subst (λ (o : RanOf). Leaves o (Refused k) t bytes) (sym e) (record { number = refl; n = refl; table-left = refl; bytes-left = refl; small = zero-le })
 
   pub not-whole : whole t ≡ false → Leaves (run answers t xs bytes) (Refused 1) t bytes
   unfolding run nothing
@@ -39,4 +41,4 @@ module _ (answers : ℕ) (t xs bytes : List ℕ) where
       unfolding run
       plays n table left e w =
           subst (λ (o : RanOf). Leaves o (Messages n) table left) (yes _ a (yes _ b (yes _ e refl)))
-          (record { number = refl; n = w .counted; table-left = w .record-left; bytes-left = w .verdicts-left })
+          (record { number = refl; n = w .counted; table-left = w .record-left; bytes-left = w .verdicts-left; small = omega (arith, w .within, most t a) })

@@ -1,9 +1,9 @@
 -- What a run answers: document 01's number and n for each case; and what the promise of a run says of answer, table and verdict bytes.
 use mathlib.Core.List.{List, []}
 use mathlib.Core.Path.{_≡_}
-use Prim.Native.Nat.{ℕ, _+_}
+use Prim.Native.Nat.{ℕ, _+_, _≤_}
 use lib.ListN.{length}
-use Rattle.record.specs.Table.{Record, roomOf}
+use Rattle.record.specs.Table.{Record, mostRoom, roomOf}
 use Rattle.rules.specs.Run.{Ran as RanOf, flat, over, played, stepsOf, verdicts}
 use Rattle.rules.specs.Step.{Outcome, accepted, numberOf, refused, tableAfter}
 use Rattle.runs.specs.declared.run.Ran.{Ran}
@@ -23,6 +23,8 @@ pub record Leaves (o : RanOf) (r : Ran) (table bytes : List ℕ) : Type 0 where
   pub n : ranCount r ≡ o .n
   pub table-left : table ≡ o .table
   pub bytes-left : bytes ≡ o .verdictBytes
+  -- so n fits 16 bits
+  pub small : ranCount r ≤ mostRoom
 
 -- of one step of it, by the step's outcome: one message more, or as many as before
 abbrev pub countAfter : ℕ → Outcome → ℕ
@@ -39,3 +41,4 @@ pub record Plays (answers : ℕ) (t xs bytes : List ℕ) (n : ℕ) (table bytes-
   pub counted : n ≡ length (played answers (roomOf t) [] (stepsOf xs))
   pub record-left : table ≡ over (flat (played answers (roomOf t) [] (stepsOf xs))) t
   pub verdicts-left : bytes-left ≡ over (verdicts answers (roomOf t) [] (stepsOf xs)) bytes
+  pub within : n ≤ roomOf t

@@ -2,7 +2,7 @@
 use mathlib.Core.Bool.{Bool, true, false, _&&_, cond}
 use mathlib.Core.List.{List, [], _∷_, _++_}
 use mathlib.Core.Path.{_≡_, _∙_, refl, sym, ap, subst}
-use Prim.Native.Nat.{ℕ, _+_, _*_, _%_, _≤_, _<_}
+use Prim.Native.Nat.{ℕ, _+_, _*_, _%_, _≤_, _<_, zero-le}
 use native.Mathlib.Omega.{arith}
 use borrow.Author.Tests.{leb-true, ltb-true}
 use lib.Dec.{eqb, leb, ltb}
@@ -31,12 +31,12 @@ use Rattle.step.specs.declared.judge.Answer.the-variants.{Accepted, Refu
 -- the answer by the outcome
 pub refuses : (n : ℕ) (t : List ℕ) {o : Outcome} {k : ℕ} → o ≡ refused k → Answered n t o (Refused k) t
 refuses n t {o} {k} e =
-    subst (λ (x : Outcome). Answered n t x (Refused k) t) (sym e) (record { number = refl; place = refl; table = refl })
+    subst (λ (x : Outcome). Answered n t x (Refused k) t) (sym e) (record { number = refl; place = refl; table = refl; small = zero-le })
 
-pub accepts : (n : ℕ) (t : List ℕ) {o : Outcome} (m : Message) {left : List ℕ} → o ≡ accepted m → left ≡ withMessage n t m
+pub accepts : (n : ℕ) (t : List ℕ) {o : Outcome} (m : Message) {left : List ℕ} → o ≡ accepted m → left ≡ withMessage n t m → n < mostRoom
     → Answered n t o (Accepted (record { 0 = n + 1 })) left
-accepts n t m {left} e p =
-    subst (λ (x : Outcome). Answered n t x (Accepted (record { 0 = n + 1 })) left) (sym e) (record { number = refl; place = refl; table = p })
+accepts n t m {left} e p h =
+    subst (λ (x : Outcome). Answered n t x (Accepted (record { 0 = n + 1 })) left) (sym e) (record { number = refl; place = refl; table = p; small = omega arith })
 
 -- three gates: a number is given by the first that is shut, and 9 only where all stand open
 shut : (a b c : Bool) (o : Outcome) → (three a b c ≡ 9 → ⊥)
@@ -194,3 +194,7 @@ had-room answers n t s x e =
     (six-open (known (codeOf s)) (eachArgument inRange ks xs) (eachArgument (placed (length R)) ks xs) (eachArgument (holding R) ks xs)
     (all holds (claims R ks xs (rowOf (codeOf s) .deed))) (ltb (length R) (roomOf t)) (added R ks xs answers (rowOf (codeOf s) .deed)) x e) in
     subst (λ (k : ℕ). k < roomOf t) (length-cut messageWidth n t) h
+
+-- a place with room is one of 512
+pub under-most : (n : ℕ) (t : List ℕ) → whole t ≡ true → n < roomOf t → n < mostRoom
+under-most n t e h = omega (arith, most t e)

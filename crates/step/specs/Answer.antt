@@ -2,7 +2,8 @@
 -- step's outcome.
 use mathlib.Core.List.{List}
 use mathlib.Core.Path.{_≡_}
-use Prim.Native.Nat.{ℕ}
+use Prim.Native.Nat.{ℕ, _≤_}
+use Rattle.record.specs.Table.{mostRoom}
 use Rattle.rules.specs.Step.{Outcome, numberOf, placeOf, tableAfter}
 use Rattle.step.specs.declared.judge.Answer.{Answer}
 use Rattle.step.specs.declared.judge.Answer.the-variants.{Accepted, Refused}
@@ -19,3 +20,5 @@ pub record Answered (n : ℕ) (t : List ℕ) (o : Outcome) (r : Answer) (left : 
   pub number : answerNumber r ≡ numberOf o
   pub place : answerPlace r ≡ placeOf n o
   pub table : left ≡ tableAfter n t o
+  -- so a place fits 16 bits
+  pub small : answerPlace r ≤ mostRoom

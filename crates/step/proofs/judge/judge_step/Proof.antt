@@ -7,7 +7,7 @@ use Rattle.record.specs.Table.{roomOf}
 use Rattle.rules.specs.Codes.{known}
 use Rattle.rules.specs.Step.{codeOf}
 use Rattle.step.proofs.Lowest.{above, below, inside}
-use Rattle.step.proofs.Outcomes.{accepts, faulty, full, most, not-allowed, ready, refuses, taken, unknown}
+use Rattle.step.proofs.Outcomes.{accepts, faulty, full, most, not-allowed, ready, refuses, taken, under-most, unknown}
 use Rattle.step.specs.Ready.{Known}
 use Rattle.step.proofs.judge.judge_step.Statement.{statement}
 use Rattle.step.proofs.judge.judge_step.Tie as tie
@@ -71,7 +71,7 @@ returns-6 c =
     let the-if2 = c .before .before .before .before .before .before .before .before .before .before .before .before .before .before .before .before .if2 in
     let the-if1 = c .before .before .before .before .before .before .before .before .before .before .before .before .before .before .before .before .before .if1 in
     let the-args = c .before .before .before .before .before .before .before .before .before .before .before .before .before .before .before .before .before .before .before .before .before .args in
-    accepts (the-args .n) (the-args .t .now) (the-drafted .result .message) (taken (the-args .answers) (the-args .n) (the-args .t .now) (the-args .s .now) (inside (the-if1 .left) (the-if2 .left)) (sym (the-if3 .left) ∙ the-first-fault .ensures) (the-drafted .result) (the-drafted .ensures) (not-false _ (the-if4 .left)) (lt-ltb (the-args .n) (roomOf (the-args .t .now)) (omega (arith, the-if5 .left, the-room .ensures)))) (the-write .ensures)
+    accepts (the-args .n) (the-args .t .now) (the-drafted .result .message) (taken (the-args .answers) (the-args .n) (the-args .t .now) (the-args .s .now) (inside (the-if1 .left) (the-if2 .left)) (sym (the-if3 .left) ∙ the-first-fault .ensures) (the-drafted .result) (the-drafted .ensures) (not-false _ (the-if4 .left)) (lt-ltb (the-args .n) (roomOf (the-args .t .now)) (omega (arith, the-if5 .left, the-room .ensures)))) (the-write .ensures) (under-most (the-args .n) (the-args .t .now) (c .before .before .before .before .before .before .before .before .before .before .before .before .before .before .before .before .before .before .before .before .before .pre .0) (omega (arith, the-if5 .left, the-room .ensures)))
 
 pub judge-step-spec : {M : Type 1} → statement M
 judge-step-spec =

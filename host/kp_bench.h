@@ -1,0 +1,34 @@
+/* The bench's entries for hosts in C. Link target/staticlib/libhost.a (`rt staticlib host`).
+ *
+ * A record is a table of 16-bit numbers, 48 to a message, room for at most 512 messages; n of them are there. A table is lent as a
+ * pointer and its length in numbers; the pointer may be NULL where that length is 0. No table may overlap another one of the same
+ * call. Nothing is kept after a call returns. Every input gets an answer, and a refused call leaves every lent table as it was.
+ *
+ * Numbers returned: 0 accepted; 1 the record is not lawful (its length, its count or a message); 2 no such code; 3 a party or response
+ * code out of range, or an unused argument not 0; 4 no such place; 5 a message named holds no such item or has the wrong kind; 6 an
+ * honest step's condition does not hold; 7 all room is used; 8 the list is not a whole number of steps, or over 1,024; 9 fewer verdict
+ * bytes than steps; 20, 21, 22 the report on a reply.
+ */
+#ifndef KP_BENCH_H
+#define KP_BENCH_H
+
+#include <stddef.h>
+#include <stdint.h>
+
+/* One step against a record of n messages. Bit b of answers is set when account b is good. The step is a code and six arguments, unused
+ * ones 0. Accepted (0), the message stands in the next place of the record, which is returned in *place; refused (1 to 7), *place is 0.
+ * place must not be NULL. */
+uint8_t kp_step(uint16_t *record, size_t record_len, size_t n, uint16_t answers, uint16_t code, uint16_t a1, uint16_t a2, uint16_t a3,
+                uint16_t a4, uint16_t a5, uint16_t a6, uint16_t *place);
+
+/* A run of a list of steps, 7 numbers each, from an empty record. Each step's number goes into its verdict byte; a refused step does not
+ * stop the run. Played (0), *n is how many messages the record then has; bytes past the last step and places past n stay. Refused (1 for
+ * the record's length, 8, 9), *n is 0. n must not be NULL. */
+uint8_t kp_run(uint16_t *record, size_t record_len, uint16_t answers, const uint16_t *steps, size_t steps_len, uint8_t *verdicts,
+               size_t verdicts_len, uint16_t *n);
+
+/* The report on the reply at a place of a record of n messages: 20 all four messages of its payment stand earlier; 21 its buyer and
+ * seller are both the outsider; 22 otherwise. Refused: 1, 4, and 5 if there is no reply made by gateway 1 at that place. */
+uint8_t kp_report(const uint16_t *record, size_t record_len, size_t n, size_t place);
+
+#endif
