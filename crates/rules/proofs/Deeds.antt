@@ -1,6 +1,6 @@
 -- An accepted step by what its code does, never by its number: what it names stands in the record and has the kind or the item that is
 -- wanted. One computed test of the 37 rows says that each row has what its deed reads.
-use mathlib.Core.Bool.{Bool, true, _&&_, _||_}
+use mathlib.Core.Bool.{Bool, true, false, _&&_, _||_}
 use mathlib.Core.List.{List, []}
 use mathlib.Core.Path.{_≡_, _∙_, refl, sym, subst}
 use Prim.Native.Nat.{ℕ, _-_}
@@ -14,10 +14,10 @@ use Rattle.record.specs.Table.{Record, messageAt}
 use Rattle.record.specs.Tests.{all}
 use Rattle.rules.proofs.Accepted.{Passed, is-accepted}
 use Rattle.rules.proofs.Arguments.{passed-given}
-use Rattle.rules.proofs.Tests.{all-member, bounds, member-at}
+use Rattle.rules.proofs.Tests.{all-member, bounds, member-at, picked}
 use Rattle.rules.specs.Agreed.{_∈_}
 use Rattle.rules.specs.Codes.{Argument, Deed, Item, Row, asks, forges, invoices, known, pays, replies, rowOf, row, rows, starts}
-use Rattle.rules.specs.Forged.{copied, given, gives}
+use Rattle.rules.specs.Forged.{copied, given, gives, itemOr}
 use Rattle.rules.specs.Items.{holding, inRange, isKind, placed, yields}
 use Rattle.rules.specs.Step.{Step, accepted, added, argumentsOf, codeOf, judge}
 
@@ -101,5 +101,13 @@ module _ {room : ℕ} {R : Record} {d : Deed} {ks : List Argument} {xs : List �
   named k = at-place (Argument.the k) (λ n x. refl)
 
   -- the outsider copies an item from a message that yields it
-  pub copied-from : (i : Item) → gives (Argument.at i) ks ≡ true → (copied R ks xs i ∈ R) × (yields i (copied R ks xs i) ≡ true)
+  copied-from : (i : Item) → gives (Argument.at i) ks ≡ true → (copied R ks xs i ∈ R) × (yields i (copied R ks xs i) ≡ true)
   copied-from i = at-place (Argument.at i) (λ n x. refl)
+
+  -- what holds of the item in every message that yields it, and of what is built in its place, holds of the item
+  pub item-of : {A : Type 0} (P : A → Type 0) (i : Item) (read : Message → A) (built : A)
+      → ((w : Message) → w ∈ R → yields i w ≡ true → P (read w)) → (gives (Argument.at i) ks ≡ false → P built)
+      → P (itemOr R ks xs i read built)
+  item-of P i read built reads builds =
+      let w = copied R ks xs i in
+      picked P (gives (Argument.at i) ks) (read w) built (λ g. let c = copied-from i g in reads w (c .0) (c .1)) builds

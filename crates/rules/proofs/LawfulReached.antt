@@ -25,13 +25,13 @@ use Rattle.record.specs.declared.parts.Seller.{Seller}
 use Rattle.record.specs.declared.parts.Slip.{Slip}
 use Rattle.rules.proofs.Accepted.{is-accepted}
 use Rattle.rules.proofs.Arguments.{not-given, passed-given}
-use Rattle.rules.proofs.Deeds.{Taken, by-deed, copied-from, hashedBuilt, markBuilt, member-place, named, ranged, slipBuilt, two-named}
+use Rattle.rules.proofs.Deeds.{Taken, by-deed, hashedBuilt, item-of, markBuilt, member-place, named, ranged, slipBuilt, two-named}
 use Rattle.rules.proofs.Ranges.{BuyerSigned✓, Hashed✓, InvoiceSigned✓, Mark✓, ReplySigned✓, RequestSigned✓, Slip✓, fits-append, fits-at, fits-part, lawful-initiate, lawful-invoice, lawful-number, lawful-part, lawful-payment, lawful-reply, lawful-request}
 use Rattle.rules.proofs.Reached.{kept-reached}
 use Rattle.rules.proofs.Tests.{all-append, all-member, both, bounded, either, other, picked}
 use Rattle.rules.specs.Agreed.{_∈_}
 use Rattle.rules.specs.Codes.{Argument, Deed, Item, asks, forges, invoices, pays, replies, starts}
-use Rattle.rules.specs.Forged.{account, buyer, buyerSignature, code, copied, drawn, given, gives, hashed, invoiceSignature, itemOr, mark, noBuyer, noGateway, noSeller, replySignature, requestSignature, seller, slip}
+use Rattle.rules.specs.Forged.{account, buyer, buyerSignature, code, drawn, given, gives, hashed, invoiceSignature, itemOr, mark, noBuyer, noGateway, noSeller, replySignature, requestSignature, seller, slip}
 use Rattle.rules.specs.Honest.{codeFor, good, house, markFor, orderMark, slipUnder}
 use Rattle.rules.specs.Items.{buyerSignedIn, drawnIn, hasSlip, hashedIn, holding, inRange, invoiceSignedIn, isKind, markIn, placed, readable, replySignedIn, requestSignedIn, slipIn, yields}
 use Rattle.rules.specs.Reached.{Reached}
@@ -102,10 +102,7 @@ module _ {room : ℕ} {R : Record} {d : Deed} {ks : List Argument} {xs : List �
   item✓ : {A : Type 0} (P : A → Type 0) (i : Item) (read : Message → A) (built : A)
       → ((w : Message) → lawful w ≡ true → yields i w ≡ true → P (read w)) → (gives (Argument.at i) ks ≡ false → P built)
       → P (itemOr R ks xs i read built)
-  item✓ P i read built reads builds =
-      let w = copied R ks xs i in
-      picked P (gives (Argument.at i) ks) (read w) built
-      (λ g. let c = copied-from t i g in reads w (lawful-at w (c .0)) (c .1)) builds
+  item✓ P i read built reads builds = item-of t P i read built (λ w m y. reads w (lawful-at w m) y) builds
 
   -- a party that the row does not give is 0
   given-party : (k : Argument) (r : Range) → ((x : ℕ) → inRange k x ≡ within r x) → within r 0 ≡ true → within r (given k ks xs) ≡ true

@@ -1,7 +1,7 @@
 -- The report on a reached record: at each house reply 20 if buyer and seller of its mark are not both the outsider, 21 if they are; so
 -- never 22.
 use mathlib.Core.Bool.{Bool, true, cond, _||_, or-true, true≢false}
-use mathlib.Core.List.{List, [], _∷_, List·Memᴰ·cases-cons, List·Memᴰ·not-nil}
+use mathlib.Core.List.{[], _∷_, List·Memᴰ·cases-cons, List·Memᴰ·not-nil}
 use mathlib.Core.Logic.{⊎-elim}
 use mathlib.Core.Path.{_≡_, _∙_, refl, sym, ap, subst}
 use Prim.Native.Nat.{ℕ}
@@ -22,7 +22,7 @@ use Rattle.rules.proofs.Gates.{all-open, passes}
 use Rattle.rules.proofs.LawfulReached.{table-lawful}
 use Rattle.rules.proofs.Tests.{both, eq-same, picked}
 use Rattle.rules.specs.Agreed.{Agreed, BothOutside, HouseReplyAt, Reported, _∈_}
-use Rattle.rules.specs.Reached.{HoldsReached}
+use Rattle.rules.specs.Reached.{Reached}
 use Rattle.rules.specs.Report.{agreed, earlier, itsInitiate, itsInvoice, itsPayment, itsRequest, outside, paymentAt, report, reportAt, reportGates, reportOn, stands}
 use Rattle.rules.specs.Theorems.{Never22, Reports}
 
@@ -58,20 +58,19 @@ agreed-report R x a =
     let is-20 : cond (agreed x R) 20 22 ≡ 20 = ap (λ (b : Bool). cond b 20 22) (agreed-test x R (a not-out)) in
     record { agreed = (λ q. not-out, λ n. is-20); outsider = (λ q. absurd (omega arith), λ b. absurd (not-out b)) })
 
--- at each house reply of a reached record
-pub reports : Reports
-reports answers room R r p h = agreed-report (earlier R p) (paymentAt R p) (agreement answers room R r p h)
+-- at each house reply of a reached record, and of a table that holds one
+reported : (answers room : ℕ) (R : Record) → Reached answers room R → (p : Place) → HouseReplyAt R p
+    → Reported (paymentAt R p) (reportAt R p)
+reported answers room R r p h = agreed-report (earlier R p) (paymentAt R p) (agreement answers room R r p h)
 
--- and of a table that holds one
-pub table-reports : (answers n : ℕ) (t : List ℕ) → HoldsReached answers n t → (p : Place) → HouseReplyAt (messages n t) p
-    → Reported (paymentAt (messages n t) p) (report n t p)
+pub reports : Reports
 unfolding report
-table-reports answers n t h p r =
+reports answers n t h p r =
     let R = messages n t in
     let inside : between 1 (p .0) n ≡ true = ap (between 1 (p .0)) (sym (length-cut messageWidth n t)) ∙ r .inside in
     subst (Reported (paymentAt R p))
     (sym (passes (λ k. k) (reportAt R p) (reportGates n t p) (table-lawful answers n t h, (inside, (r .reply, tt)))))
-    (reports answers (roomOf t) R (h .reached) p r)
+    (reported answers (roomOf t) R (h .reached) p r)
 
 -- 22 never occurs, whatever place is asked about
 pub never-22 : Never22
@@ -82,5 +81,5 @@ never-22 answers n t h p e =
     let r : HouseReplyAt R p =
     record { inside = ap (between 1 (p .0)) (length-cut messageWidth n t) ∙ o .0 .1 .0; reply = o .0 .1 .1 .0 }
     in
-    let said = reports answers (roomOf t) R (h .reached) p r in
+    let said = reported answers (roomOf t) R (h .reached) p r in
     omega (arith, o .1, said .agreed .1 (λ b. omega (arith, o .1, said .outsider .1 b)))

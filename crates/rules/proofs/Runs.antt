@@ -18,7 +18,7 @@ use Rattle.rules.proofs.Gates.{Open, all-open, passes}
 use Rattle.rules.proofs.Laid.{full-length}
 use Rattle.rules.proofs.LawfulReached.{reached-room, step-as-run, table-lawful}
 use Rattle.rules.proofs.Reached.{played-append, prefixes}
-use Rattle.rules.proofs.Reports.{never-22, table-reports}
+use Rattle.rules.proofs.Reports.{never-22, reports}
 use Rattle.rules.proofs.Agreement.{agreement}
 use Rattle.rules.proofs.Session.{Placed, placed-new, sessions}
 use Rattle.rules.proofs.Vouched.{reached-sound}
@@ -83,14 +83,14 @@ module _ (answers room : ℕ) where
   verdict-at R (r ∷ ss) s ts = verdict-at (recordAfter R (judge answers room R r)) ss s ts
 
 -- a session played as one list
-session-played : (c : Setting) (after5 : List Step) → played (c .answers) (c .room) (c .R1) (sessionSteps c after5) ≡ R6 c after5
+session-played : (c : Setting) (after5 : List Step) → played (c .answers) (c .room) (c .start) (sessionSteps c after5) ≡ R6 c after5
 session-played c after5 =
     let joined = played-append (c .answers) (c .room) in
     let l5 = step5 c ∷ after5 in
     let l4 = step4 c ∷ (c .after4 ++ l5) in
     let l3 = step3 c ∷ (c .after3 ++ l4) in
     let l2 = step2 c ∷ (c .after2 ++ l3) in
-    joined (c .R1) (step1 c ∷ c .after1) l2
+    joined (c .start) (step1 c ∷ c .after1) l2
     ∙ joined (R2 c) (step2 c ∷ c .after2) l3
     ∙ joined (R3 c) (step3 c ∷ c .after3) l4
     ∙ joined (R4 c) (step4 c ∷ c .after4) l5
@@ -154,7 +154,7 @@ module _ (answers : ℕ) (t xs bytes : List ℕ) where
         lawful-left = table-lawful answers n after h;
         judged = λ s. step-as-run answers n after h s ∙ ap (λ (k : ℕ). judge answers (k / messageWidth) (messages n after) s) same-length;
         agreed = agreement answers (roomOf after) (messages n after) (h .reached);
-        reported = table-reports answers n after h;
+        reported = reports answers n after h;
         never-22 = never-22 answers n after h;
         sessions =
             λ l0 l1 l2 l3 l4 l5 B S b✓ s✓ q roomy.
@@ -175,7 +175,7 @@ module _ (answers : ℕ) (t xs bytes : List ℕ) where
             record { inside = placed-so .inside; reply = ap houseReply (placed-so .message) }
             in (
               all-five,
-              subst (λ (w : Message). Reported (replyMark w) (report n after p)) (placed-so .message) (table-reports answers n after h p at-p),
+              subst (λ (w : Message). Reported (replyMark w) (report n after p)) (placed-so .message) (reports answers n after h p at-p),
             );
       }
 

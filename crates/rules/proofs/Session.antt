@@ -87,9 +87,9 @@ module _ (c : Setting) (buyer✓ : within buyers (c .buyer .0) ≡ true) (seller
   stays = placed-later (c .answers) (c .room)
 
   -- each step on the record that it meets, with the messages that it names
-  accepted1 : judge (c .answers) (c .room) (c .R1) (step1 c) ≡ accepted (itsInitiate x)
+  accepted1 : judge (c .answers) (c .room) (c .start) (step1 c) ≡ accepted (itsInitiate x)
   accepted1 =
-      takes (c .R1) (step1 c) (itsInitiate x)
+      takes (c .start) (step1 c) (itsInitiate x)
       (record {
         coded = refl;
         passed = record { ranged = both buyer✓ (both seller✓ refl); places = refl; held = refl; claimed = refl; roomy = room .at1 };
@@ -97,7 +97,7 @@ module _ (c : Setting) (buyer✓ : within buyers (c .buyer .0) ≡ true) (seller
       })
 
   initiate2 : Placed (R2 c) (place1 c) (itsInitiate x)
-  initiate2 = new (c .R1) (step1 c) (itsInitiate x) (c .after1) accepted1
+  initiate2 = new (c .start) (step1 c) (itsInitiate x) (c .after1) accepted1
 
   accepted2 : judge (c .answers) (c .room) (R2 c) (step2 c) ≡ accepted (itsInvoice x)
   accepted2 =

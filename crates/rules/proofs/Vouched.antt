@@ -17,13 +17,13 @@ use Rattle.record.specs.declared.parts.Seller.{Seller}
 use Rattle.record.specs.declared.signed.BuyerSigned.{BuyerSigned}
 use Rattle.record.specs.declared.signed.RequestSigned.{RequestSigned}
 use Rattle.rules.proofs.Claims.{as-part, facts}
-use Rattle.rules.proofs.Deeds.{Taken, by-deed, copied-from, named, two-named}
+use Rattle.rules.proofs.Deeds.{Taken, by-deed, item-of, named, two-named}
 use Rattle.rules.proofs.Laid.{one-kind, relaid}
 use Rattle.rules.proofs.Reached.{kept-reached}
 use Rattle.rules.proofs.Tests.{other, picked}
 use Rattle.rules.specs.Agreed.{_∈_}
 use Rattle.rules.specs.Codes.{Argument, Deed, Item, asks, forges, invoices, pays, replies, starts}
-use Rattle.rules.specs.Forged.{buyerSignature, copied, given, gives, mark, noBuyer, noSeller, requestSignature, slip}
+use Rattle.rules.specs.Forged.{buyerSignature, given, gives, mark, noBuyer, noSeller, requestSignature, slip}
 use Rattle.rules.specs.Honest.{askClaims, invoiceClaims, orderMark, payClaims, paymentBy, requestBy}
 use Rattle.rules.specs.Items.{buyerSignedIn, hasSlip, isKind, requestSignedIn}
 use Rattle.rules.specs.Reached.{Reached}
@@ -240,20 +240,13 @@ module _ (answers room : ℕ) (R : Record) (ks : List Argument) (xs : List ℕ) 
 
     forged-buyer : {d : Deed} → Taken room R d ks xs → BuyerVouched T (buyerSignature R ks xs)
     forged-buyer t =
-        picked (BuyerVouched T) (gives (Argument.at Item.p) ks) (buyerSignedIn (copied R ks xs Item.p))
-        (record { signer = noBuyer; slip = slip R ks xs; mark = mark R ks xs })
-        (λ g. let c = copied-from t Item.p g in copied-buyer (copied R ks xs Item.p) (c .0) (c .1))
+        item-of t (BuyerVouched T) Item.p buyerSignedIn (record { signer = noBuyer; slip = slip R ks xs; mark = mark R ks xs }) copied-buyer
         (λ g h. absurd (h refl))
 
     forged-seller : {d : Deed} → Taken room R d ks xs → SellerVouched T (requestSignature R ks xs)
     forged-seller t =
-        picked (SellerVouched T) (gives (Argument.at Item.q) ks) (requestSignedIn (copied R ks xs Item.q))
-        (record { signer = noSeller; mark = mark R ks xs; slip = slip R ks xs })
-        (λ g h.
-        let c = copied-from t Item.q g in
-        let w = copied R ks xs Item.q in
-        seller-grows grows (sound-as R AuthRequest w (sound w (c .0)) (c .1) .1 .1 h))
-        (λ g h. absurd (h refl))
+        item-of t (SellerVouched T) Item.q requestSignedIn (record { signer = noSeller; mark = mark R ks xs; slip = slip R ks xs })
+        (λ w m y h. seller-grows grows (sound-as R AuthRequest w (sound w m) y .1 .1 h)) (λ g h. absurd (h refl))
 
     added-sound : (d : Deed) → (added R ks xs answers d ∈ T) → Taken room R d ks xs → Sound T (added R ks xs answers d)
     added-sound starts new t = record { kind = Initiate; laid = refl; sent = λ e. e; vouched = tt }

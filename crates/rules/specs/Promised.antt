@@ -34,7 +34,7 @@ module _ (answers : ℕ) (t xs : List ℕ) (ran : Ran) where
         room = roomOf t;
         buyer = B;
         seller = S;
-        R1 = leftBy l0;
+        start = leftBy l0;
         after1 = l1;
         after2 = l2;
         after3 = l3;

@@ -27,7 +27,7 @@ pub record Setting : Type 0 where
   pub room : ℕ
   pub buyer : Buyer
   pub seller : Seller
-  pub R1 : Record
+  pub start : Record
   pub after1 : List Step
   pub after2 : List Step
   pub after3 : List Step
@@ -37,15 +37,16 @@ module _ (c : Setting) where
   abbrev on : Record → List Step → Record
   on = played (c .answers) (c .room)
 
-  -- step k meets the record Rk; what it adds stands at place k of the session, where later steps name it
+  -- step 1 meets the record `start`, step k the record Rk; the message that it adds stands at the session's place k, where later steps
+  -- name it
   abbrev pub place1 : Place
-  place1 = newPlace (c .R1)
+  place1 = newPlace (c .start)
 
   abbrev pub step1 : Step
   step1 = stepOf 1 (c .buyer .0 ∷ c .seller .0 ∷ [])
 
   abbrev pub R2 : Record
-  R2 = on (c .R1) (step1 ∷ c .after1)
+  R2 = on (c .start) (step1 ∷ c .after1)
 
   abbrev pub place2 : Place
   place2 = newPlace R2
@@ -92,7 +93,7 @@ module _ (c : Setting) where
 
   -- there is room at each of the five
   pub record RoomAtEach : Type 0 where
-    pub at1 : length (c .R1) < c .room
+    pub at1 : length (c .start) < c .room
     pub at2 : length R2 < c .room
     pub at3 : length R3 < c .room
     pub at4 : length R4 < c .room
@@ -116,7 +117,7 @@ module _ (c : Setting) where
   -- each of the five is accepted and adds the session's message; and whatever is played afterwards, the reply stands where the fifth
   -- added it, and the report on it is 20, or 21 for the outsider with himself
   pub record Completed : Type 0 where
-    pub starts : judged (c .R1) step1 ≡ accepted (itsInitiate sessionMark)
+    pub starts : judged (c .start) step1 ≡ accepted (itsInitiate sessionMark)
     pub invoices : judged R2 step2 ≡ accepted (itsInvoice sessionMark)
     pub pays : judged R3 step3 ≡ accepted (itsPayment sessionMark)
     pub asks : judged R4 step4 ≡ accepted (itsRequest sessionMark)

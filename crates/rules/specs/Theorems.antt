@@ -13,7 +13,7 @@ use Rattle.record.specs.declared.parts.Place.{Place}
 use Rattle.rules.specs.Agreed.{Agreed, BothOutside, HouseReplyAt, Reported}
 use Rattle.rules.specs.Promised.{Kept}
 use Rattle.rules.specs.Reached.{HoldsReached, Reached}
-use Rattle.rules.specs.Report.{earlier, paymentAt, report, reportAt}
+use Rattle.rules.specs.Report.{earlier, paymentAt, report}
 use Rattle.rules.specs.Run.{played, run}
 use Rattle.rules.specs.Session.{Completed, RoomAtEach, Setting}
 use Rattle.rules.specs.Step.{Step, judge, judgeTable}
@@ -30,14 +30,15 @@ Agreement =
 -- (proofs/Session)
 abbrev pub Sessions : Type 0
 Sessions =
-    (c : Setting) → Reached (c .answers) (c .room) (c .R1) → within buyers (c .buyer .0) ≡ true → within sellers (c .seller .0) ≡ true
+    (c : Setting) → Reached (c .answers) (c .room) (c .start) → within buyers (c .buyer .0) ≡ true → within sellers (c .seller .0) ≡ true
     → RoomAtEach c → Completed c
 
--- The report on a house reply of a reached record is 20 exactly when buyer and seller are not both the outsider, and 21 exactly when they
--- are; and 22 is the report on no place. (proofs/Reports)
+-- On a table that holds a reached record the report on a house reply is 20 exactly when buyer and seller of the payment are not both the
+-- outsider, and 21 exactly when they are; and 22 is the report on no place at all. (proofs/Reports)
 abbrev pub Reports : Type 0
 Reports =
-    (answers room : ℕ) (R : Record) → Reached answers room R → (p : Place) → HouseReplyAt R p → Reported (paymentAt R p) (reportAt R p)
+    (answers n : ℕ) (t : List ℕ) → HoldsReached answers n t → (p : Place) → HouseReplyAt (messages n t) p
+    → Reported (paymentAt (messages n t) p) (report n t p)
 
 abbrev pub Never22 : Type 0
 Never22 = (answers n : ℕ) (t : List ℕ) → HoldsReached answers n t → (p : Place) → ¬ (report n t p ≡ 22)
