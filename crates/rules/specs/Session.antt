@@ -37,14 +37,15 @@ module _ (c : Setting) where
   abbrev on : Record → List Step → Record
   on = played (c .answers) (c .room)
 
-  -- step 1 meets the record `start`, step k the record Rk; the message that it adds stands at the session's place k, where later steps
-  -- name it
+  -- Step 1 meets the record `start`, step k the record Rk; the message that it adds has the session's place k, by which later steps name it.
+  -- 1: buyer, seller
   abbrev pub place1 : Place
   place1 = newPlace (c .start)
 
   abbrev pub step1 : Step
   step1 = stepOf 1 (c .buyer .0 ∷ c .seller .0 ∷ [])
 
+  -- 2: seller, the Initiate of step 1
   abbrev pub R2 : Record
   R2 = on (c .start) (step1 ∷ c .after1)
 
@@ -54,6 +55,7 @@ module _ (c : Setting) where
   abbrev pub step2 : Step
   step2 = stepOf 2 (c .seller .0 ∷ place1 .0 ∷ [])
 
+  -- 3: buyer, the Initiate of step 1, the Invoice of step 2
   abbrev pub R3 : Record
   R3 = on R2 (step2 ∷ c .after2)
 
@@ -63,6 +65,7 @@ module _ (c : Setting) where
   abbrev pub step3 : Step
   step3 = stepOf 3 (c .buyer .0 ∷ place1 .0 ∷ place2 .0 ∷ [])
 
+  -- 4: seller, the Invoice of step 2, the Payment of step 3
   abbrev pub R4 : Record
   R4 = on R3 (step3 ∷ c .after3)
 
@@ -72,6 +75,7 @@ module _ (c : Setting) where
   abbrev pub step4 : Step
   step4 = stepOf 4 (c .seller .0 ∷ place2 .0 ∷ place3 .0 ∷ [])
 
+  -- 5: the Auth-Request of step 4
   abbrev pub R5 : Record
   R5 = on R4 (step4 ∷ c .after4)
 
