@@ -1,3 +1,4 @@
+-- `step::judge::judge_step` meets its promise.
 use borrow.Author.Needs.{needs}
 use borrow.Author.Tests.{le-ltb, leb-false, leb-true, lt-ltb, not-false, not-true}
 use mathlib.Core.Bool.{true}
