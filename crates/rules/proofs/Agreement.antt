@@ -1,34 +1,36 @@
 -- Agreement: when the house has replied, buyer and seller of that payment have said the same, unless both are the outsider. Either's
 -- signature on the Auth-Request vouches for his own messages and for those that the other sent; what the outsider sent he made himself.
 use mathlib.Core.Bool.{Bool, true, false, false≢true}
-use mathlib.Core.List.{List, [], Memᴰ·cast}
+use mathlib.Core.List.{List, _++_, Memᴰ·cast}
 use mathlib.Core.Path.{_≡_, _∙_, refl, sym, ap, subst}
-use Prim.Native.Nat.{ℕ, _+_, _<_}
+use Prim.Native.Nat.{ℕ, _+_, _-_}
+use native.Mathlib.Omega.{arith}
 use borrow.Author.Tests.{eqb-false, eqb-true}
 use lib.Dec.{eqb}
-use lib.ListN.{getD, length, take}
-use Rattle.record.specs.Layout.{AuthRequest, AuthResponse, Initiate, Invoice, Payment, aPayment, anAuthRequest, anInitiate, anInvoice, body, destination, maker, requestBuyerSigned, requestSigned, requestSlip, source}
-use Rattle.record.specs.Parts.{Message, buyerAt, gatewayAt, markAt, markWidth, ownerOf, sellerAt, slipAt, slipWidth}
-use Rattle.record.specs.Signed.{buyerSignedAt, requestSignedAt}
-use Rattle.record.specs.Table.{Record}
+use lib.ListN.{length}
+use Rattle.record.specs.Layout.{AuthRequest, AuthResponse, Initiate, Invoice, Kind, Payment, anAuthRequest, body, destination, laid, requestBuyerSigned, requestSigned, requestSlip, source}
+use Rattle.record.specs.Parts.{Message, buyerAt, gatewayAt, hashedNumbers, markAt, markNumbers, markWidth, ownerOf, sellerAt, slipAt, slipNumbers, slipWidth}
+use Rattle.record.specs.Signed.{buyerSignedAt, buyerSignedNumbers, invoiceSignedNumbers, requestSignedAt, requestSignedNumbers}
+use Rattle.record.specs.Table.{Record, messageAt}
 use Rattle.record.specs.Tests.{all}
 use Rattle.record.specs.declared.parts.Buyer.{Buyer}
 use Rattle.record.specs.declared.parts.Mark.{Mark}
 use Rattle.record.specs.declared.parts.Seller.{Seller}
 use Rattle.record.specs.declared.signed.BuyerSigned.{BuyerSigned}
 use Rattle.record.specs.declared.signed.RequestSigned.{RequestSigned}
-use Rattle.rules.proofs.Claims.{facts, the-buyer, the-gateway, the-mark, the-seller, the-slip}
+use Rattle.rules.proofs.Claims.{as-part, facts}
 use Rattle.rules.proofs.Deeds.{Taken, by-deed, named}
 use Rattle.rules.proofs.Laid.{relaid}
 use Rattle.rules.proofs.Reached.{history}
-use Rattle.rules.proofs.Vouched.{AllSound, BuyerVouched, InitiateSent, InvoiceSent, PaymentSent, SellerVouched, reached-sound, sound-as}
+use Rattle.rules.proofs.Tests.{bounds}
+use Rattle.rules.proofs.Vouched.{AllSound, BuyerVouched, SellerVouched, reached-sound, sound-as}
 use Rattle.rules.specs.Agreed.{Agreed, BothOutside, _∈_}
 use Rattle.rules.specs.Codes.{Argument, Deed, asks, forges, invoices, pays, replies, starts}
 use Rattle.rules.specs.Honest.{holds, house, rebuilt, replyClaims}
 use Rattle.rules.specs.Items.{isKind}
-use Rattle.rules.specs.Reached.{Reached}
-use Rattle.rules.specs.Report.{houseReply, itsInitiate, itsInvoice, itsPayment, itsRequest, itsSlip, replyMark}
+use Rattle.rules.specs.Report.{earlier, houseReply, itsRequest, itsSlip, replyMark}
 use Rattle.rules.specs.Step.{added, theRequest}
+use Rattle.rules.specs.Theorems.{Agreement}
 
 -- the signatures of a payment with the mark x
 abbrev itsBuyerSigned : Mark → BuyerSigned
@@ -52,19 +54,19 @@ checked Q e =
     let x = markAt Q body in
     let y = slipAt Q requestSlip in
     let f = facts (replyClaims Q) e in
-    let to-house : gatewayAt Q destination ≡ house = the-gateway (f .0) in
-    let key : house ≡ y .key = sym (the-gateway (f .1 .0)) in
-    let slip-mark : x ≡ y .mark = sym (the-mark (f .1 .1 .0)) in
-    let from-slip : x ≡ rebuilt S y = the-mark (f .1 .1 .1 .0) in
+    let to-house : gatewayAt Q destination ≡ house = as-part gatewayAt (f .0) in
+    let key : house ≡ y .key = sym (as-part gatewayAt (f .1 .0)) in
+    let slip-mark : x ≡ y .mark = sym (as-part markAt (f .1 .1 .0)) in
+    let from-slip : x ≡ rebuilt S y = as-part markAt (f .1 .1 .1 .0) in
     let slip : itsSlip x ≡ y =
     λ k. record { key = key k; mark = slip-mark k; account = from-slip k .hashed .account; drawn = from-slip k .hashed .drawn }
     in
-    let seller-signer : S ≡ sellerAt Q requestSigned = sym (the-seller (f .1 .1 .1 .1 .0)) in
-    let seller-mark : x ≡ markAt Q (requestSigned + 1) = sym (the-mark (f .1 .1 .1 .1 .1 .0)) in
-    let seller-slip : y ≡ slipAt Q (requestSigned + 1 + markWidth) = sym (the-slip (f .1 .1 .1 .1 .1 .1 .0)) in
-    let buyer-signer : ownerOf (y .account) ≡ buyerAt Q requestBuyerSigned = sym (the-buyer (f .1 .1 .1 .1 .1 .1 .1 .0)) in
-    let buyer-slip : y ≡ slipAt Q (requestBuyerSigned + 1) = sym (the-slip (f .1 .1 .1 .1 .1 .1 .1 .1 .0)) in
-    let buyer-mark : x ≡ markAt Q (requestBuyerSigned + 1 + slipWidth) = sym (the-mark (f .1 .1 .1 .1 .1 .1 .1 .1 .1 .0)) in
+    let seller-signer : S ≡ sellerAt Q requestSigned = sym (as-part sellerAt (f .1 .1 .1 .1 .0)) in
+    let seller-mark : x ≡ markAt Q (requestSigned + 1) = sym (as-part markAt (f .1 .1 .1 .1 .1 .0)) in
+    let seller-slip : y ≡ slipAt Q (requestSigned + 1 + markWidth) = sym (as-part slipAt (f .1 .1 .1 .1 .1 .1 .0)) in
+    let buyer-signer : ownerOf (y .account) ≡ buyerAt Q requestBuyerSigned = sym (as-part buyerAt (f .1 .1 .1 .1 .1 .1 .1 .0)) in
+    let buyer-slip : y ≡ slipAt Q (requestBuyerSigned + 1) = sym (as-part slipAt (f .1 .1 .1 .1 .1 .1 .1 .1 .0)) in
+    let buyer-mark : x ≡ markAt Q (requestBuyerSigned + 1 + slipWidth) = sym (as-part markAt (f .1 .1 .1 .1 .1 .1 .1 .1 .1 .0)) in
     let seller : x .seller ≡ S = ap (λ (z : Mark). z .seller) from-slip in
     let buyer : x .buyer ≡ ownerOf (y .account) = ap (λ (z : Mark). z .buyer) from-slip in
     record {
@@ -78,42 +80,23 @@ checked Q e =
           λ k. record { signer = (buyer ∙ buyer-signer) k; slip = (slip ∙ buyer-slip) k; mark = buyer-mark k };
     }
 
--- what was sent by 0 was made by 0, so it is the sender's own
-no-buyer : {a b : Buyer} → a .0 ≡ 0 → b .0 ≡ 0 → a ≡ b
-no-buyer p q = λ k. record { 0 = (p ∙ sym q) k }
-
-no-seller : {a b : Seller} → a .0 ≡ 0 → b .0 ≡ 0 → a ≡ b
-no-seller p q = λ k. record { 0 = (p ∙ sym q) k }
-
 module _ (R : Record) (sound : AllSound R) where
-  own-initiate : (x : Mark) → x .buyer .0 ≡ 0 → InitiateSent R x → itsInitiate x ∈ R
-  own-initiate x z i =
-      Memᴰ·cast (λ k. anInitiate (no-buyer {a = x .buyer} {b = i .0} z (sound _ (i .1) .sent z) k) (x .buyer) (x .seller) (x .hashed)) (i .1)
-
-  own-invoice : (x : Mark) → x .seller .0 ≡ 0 → InvoiceSent R x → itsInvoice x ∈ R
-  own-invoice x z v =
-      Memᴰ·cast
-      (λ k.
-      anInvoice (no-seller {a = x .seller} {b = v .0} z (sound _ (v .1) .sent z) k) (x .seller) (x .buyer) x
-      (record { signer = x .seller; mark = x }))
-      (v .1)
-
-  own-payment : (x : Mark) → x .buyer .0 ≡ 0 → PaymentSent R (itsSellerSigned x) → itsPayment x ∈ R
-  own-payment x z p =
-      Memᴰ·cast
-      (λ k. aPayment (no-buyer {a = x .buyer} {b = p .0} z (sound _ (p .1) .sent z) k) (x .buyer) (x .seller) (itsSlip x) (itsBuyerSigned x))
-      (p .1)
+  -- what 0 sent, 0 made: it is the sender's own
+  own : (k : Kind) (parts : List ℕ) (by from to : ℕ) → from ≡ 0 → laid k by from to parts ∈ R → laid k from from to parts ∈ R
+  own k parts by from to z m = Memᴰ·cast (λ i. laid k ((z ∙ sym (sound _ m .sent z)) i) from to parts) m
 
   own-request : (Q : Message) → Checked (markAt Q body) Q → markAt Q body .seller .0 ≡ 0 → Q ∈ R → Q ≡ relaid AuthRequest Q
       → itsRequest (markAt Q body) ∈ R
-  own-request Q c z m laid =
-      let x = markAt Q body in
-      let sent-by : sellerAt Q source .0 ≡ 0 = ap (λ (s : Seller). s .0) (sym (c .seller)) ∙ z in
-      let made : x .seller ≡ sellerAt Q maker = no-seller z (sound Q m .sent sent-by) in
-      let as-sent : itsRequest x ≡ relaid AuthRequest Q =
-      λ k. anAuthRequest (made k) (c .seller k) (c .to-house k) x (c .slip k) (c .seller-signed k) (c .buyer-signed k)
-      in
-      Memᴰ·cast (as-sent ∙ sym laid) m
+  own-request Q c z m as-laid =
+      Memᴰ·cast
+      (λ k.
+      anAuthRequest (c .seller k) (c .seller k) (c .to-house k) (markAt Q body) (c .slip k) (c .seller-signed k) (c .buyer-signed k))
+      (own AuthRequest
+      (markNumbers (markAt Q body)
+      ++ slipNumbers (slipAt Q requestSlip)
+      ++ requestSignedNumbers (requestSignedAt Q requestSigned)
+      ++ buyerSignedNumbers (buyerSignedAt Q requestBuyerSigned))
+      _ _ _ (ap (λ (s : Seller). s .0) (sym (c .seller)) ∙ z) (Memᴰ·cast (sym as-laid) m))
 
   -- the four cases: both are the outsider, which is not asked about; the buyer is; the seller is; neither is
   four : (x : Mark) → ¬ BothOutside x → x .hashed .account .0 ≡ x .buyer .0 → BuyerVouched R (itsBuyerSigned x)
@@ -125,9 +108,9 @@ module _ (R : Record) (sound : AllSound R) where
       let s = seller (eqb-false (x .seller .0) 0 es) in
       record {
         account = a;
-        initiate = own-initiate x no-b (s .initiate);
+        initiate = own Initiate (hashedNumbers (x .hashed)) _ _ _ no-b (s .initiate .1);
         invoice = s .invoice;
-        payment = own-payment x no-b (s .payment);
+        payment = own Payment (slipNumbers (itsSlip x) ++ buyerSignedNumbers (itsBuyerSigned x)) _ _ _ no-b (s .payment .1);
         request = s .request;
       }
   four x n a buyer seller request false true eb es =
@@ -136,7 +119,7 @@ module _ (R : Record) (sound : AllSound R) where
       record {
         account = a;
         initiate = b .initiate;
-        invoice = own-invoice x no-s (b .invoice);
+        invoice = own Invoice (markNumbers x ++ invoiceSignedNumbers (record { signer = x .seller; mark = x })) _ _ _ no-s (b .invoice .1);
         payment = b .payment;
         request = request no-s;
       }
@@ -174,10 +157,9 @@ module _ (answers room : ℕ) (R : Record) (ks : List Argument) (xs : List ℕ) 
   deed-agreed (forges AuthRequest) t h n = absurd (false≢true h)
   deed-agreed (forges AuthResponse) t h n = absurd (false≢true h)
 
--- the reply at index i of a reached record
-pub agreement : (answers room : ℕ) (R : Record) → Reached answers room R → (i : ℕ) → i < length R → houseReply (getD R i []) ≡ true
-    → ¬ BothOutside (replyMark (getD R i [])) → Agreed (replyMark (getD R i [])) (take i R)
-agreement answers room R r i below =
-    let h = history answers room R r i below in
-    by-deed answers room (take i R) (h .step) (getD R i []) (AgreedOn (take i R)) (h .numbers) (h .entered)
-    (λ d ks xs. deed-agreed answers room (take i R) ks xs (reached-sound answers room (take i R) (h .reached)) d)
+-- a reply entered the record by a step, on the messages earlier than it, which are a reached record too
+pub agreement : Agreement
+agreement answers room R r p h =
+    let e = history answers room R r (p .0 - 1) (omega (arith, bounds 1 (p .0) (length R) (h .inside))) in
+    by-deed answers room (earlier R p) (e .step) (messageAt R p) (AgreedOn (earlier R p)) (e .entered)
+    (λ d ks xs. deed-agreed answers room (earlier R p) ks xs (reached-sound answers room (earlier R p) (e .reached)) d) (h .reply)

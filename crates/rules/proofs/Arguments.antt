@@ -1,15 +1,14 @@
--- What a step gives: an argument that its row has passed the tests that each argument passed, one that the row lacks reads as 0; and
--- the rows of the table have what their deeds read.
+-- What a step gives: an argument that its row has passed the tests that each argument passed, one that the row lacks reads as 0.
 use mathlib.Core.Bool.{Bool, true, false, cond, _||_, false≢true, true≢false}
 use mathlib.Core.List.{List, [], _∷_}
+use mathlib.Core.Logic.{⊎-elim}
 use mathlib.Core.Path.{_≡_, _∙_, refl, sym, ap, subst}
-use Prim.Native.Nat.{ℕ, _≤_}
+use Prim.Native.Nat.{ℕ}
 use borrow.Author.Tests.{eqb-true}
 use lib.Dec.{eqb}
-use lib.ListN.{length}
-use native.Mathlib.Nat.{le-of-suc-le-suc, not-suc-le-zero}
+use Rattle.record.proofs.Chain.{left-of, right-of}
 use Rattle.record.specs.Layout.{AuthRequest, AuthResponse, Initiate, Invoice, Payment}
-use Rattle.rules.proofs.Tests.{first, second}
+use Rattle.rules.proofs.Tests.{either, other, picked}
 use Rattle.rules.specs.Codes.{Argument, Item, letter}
 use Rattle.rules.specs.Forged.{given, gives}
 use Rattle.rules.specs.Items.{eachArgument}
@@ -65,27 +64,30 @@ same-letter : (j k : Argument) → eqb (letter j) (letter k) ≡ true → j ≡ 
 same-letter j k e =
     sym (by-letter j) ∙ ap (lettered every-argument) (eqb-true (letter j) (letter k) e) ∙ by-letter k
 
--- one argument more: it is the one asked for, or the asked one stands further on
-module _ (f : Argument → ℕ → Bool) (k : Argument) where
-  here : (b : Bool) (j : Argument) (x y : ℕ) (more : Bool) → eqb (letter j) (letter k) ≡ b → f j x ≡ true → (b || more) ≡ true
-      → (more ≡ true → f k y ≡ true) → f k (cond b x y) ≡ true
-  here true j x y more same-one e g further = subst (λ (i : Argument). f i x ≡ true) (same-letter j k same-one) e
-  here false j x y more same-one e g further = further g
+module _ (k : Argument) where
+  -- one that is left off
+  none-given : (ks : List Argument) → given k ks [] ≡ 0
+  none-given [] = refl
+  none-given (j ∷ ks) = refl
 
-  pub passed-given : (ks : List Argument) (xs : List ℕ) → length ks ≤ length xs → eachArgument f ks xs ≡ true → gives k ks ≡ true
-      → f k (given k ks xs) ≡ true
-  passed-given [] xs l e g = absurd (false≢true g)
-  passed-given (j ∷ ks) [] l e g = absurd (not-suc-le-zero l)
-  passed-given (j ∷ ks) (x ∷ xs) l e g =
-      here (eqb (letter j) (letter k)) j x (given k ks xs) (gives k ks) refl (first (f j x) (eachArgument f ks xs) e) g
-      (passed-given ks xs (le-of-suc-le-suc l) (second (f j x) (eachArgument f ks xs) e))
+  pub not-given : (ks : List Argument) (xs : List ℕ) → gives k ks ≡ false → given k ks xs ≡ 0
+  not-given [] xs g = refl
+  not-given (j ∷ ks) [] g = refl
+  not-given (j ∷ ks) (x ∷ xs) g =
+      picked (λ (n : ℕ). n ≡ 0) (eqb (letter j) (letter k)) x (given k ks xs)
+      (λ h. absurd (true≢false (sym (ap (_|| gives k ks) h) ∙ g))) (λ h. not-given ks xs (sym (ap (_|| gives k ks) h) ∙ g))
 
-not-here : (b more : Bool) (x y : ℕ) → (b || more) ≡ false → (more ≡ false → y ≡ 0) → cond b x y ≡ 0
-not-here true more x y g further = absurd (true≢false g)
-not-here false more x y g further = further g
+  -- the argument asked for is the first that the row names, or it stands further on
+  module _ (f : Argument → ℕ → Bool) where
+    is-first : (j : Argument) (x : ℕ) → f j x ≡ true → eqb (letter j) (letter k) ≡ true → f k x ≡ true
+    is-first j x e h = subst (λ (i : Argument). f i x ≡ true) (same-letter j k h) e
 
-pub not-given : (k : Argument) (ks : List Argument) (xs : List ℕ) → gives k ks ≡ false → given k ks xs ≡ 0
-not-given k [] xs g = refl
-not-given k (j ∷ ks) [] g = refl
-not-given k (j ∷ ks) (x ∷ xs) g =
-    not-here (eqb (letter j) (letter k)) (gives k ks) x (given k ks xs) g (not-given k ks xs)
+    pub passed-given : (ks : List Argument) (xs : List ℕ) → eachArgument f ks xs ≡ true → gives k ks ≡ true → f k (given k ks xs) ≡ true
+    passed-given [] xs e g = absurd (false≢true g)
+    passed-given (j ∷ ks) [] e g =
+        ⊎-elim (is-first j 0 (left-of _ _ e))
+        (λ m. subst (λ (n : ℕ). f k n ≡ true) (none-given ks) (passed-given ks [] (right-of (f j 0) _ e) m))
+        (either (eqb (letter j) (letter k)) (gives k ks) g)
+    passed-given (j ∷ ks) (x ∷ xs) e g =
+        picked (λ (n : ℕ). f k n ≡ true) (eqb (letter j) (letter k)) x (given k ks xs) (is-first j x (left-of _ _ e))
+        (λ h. passed-given ks xs (right-of (f j x) _ e) (other (eqb (letter j) (letter k)) (gives k ks) g h))

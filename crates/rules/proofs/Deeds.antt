@@ -1,13 +1,12 @@
 -- An accepted step by what its code does, never by its number: what it names stands in the record and has the kind or the item that is
 -- wanted. One computed test of the 37 rows says that each row has what its deed reads.
-use mathlib.Core.Bool.{Bool, true, _&&_, _||_}
+use mathlib.Core.Bool.{Bool, true, false, _&&_, _||_}
 use mathlib.Core.List.{List, []}
 use mathlib.Core.Path.{_≡_, _∙_, refl, sym, subst}
-use Prim.Native.Nat.{ℕ, _-_, _≤_}
-use borrow.Author.Tests.{leb-true}
-use lib.Dec.{leb}
-use lib.ListN.{length, length-drop}
+use Prim.Native.Nat.{ℕ, _-_}
+use lib.ListN.{length}
 use native.Mathlib.Omega.{arith}
+use Rattle.record.proofs.Chain.{left-of, right-of}
 use Rattle.record.specs.Lawful.{between}
 use Rattle.record.specs.Layout.{AuthRequest, AuthResponse, Initiate, Invoice, Kind, Payment}
 use Rattle.record.specs.Parts.{Message}
@@ -15,12 +14,11 @@ use Rattle.record.specs.Table.{Record, messageAt}
 use Rattle.record.specs.Tests.{all}
 use Rattle.rules.proofs.Accepted.{Passed, is-accepted}
 use Rattle.rules.proofs.Arguments.{passed-given}
-use Rattle.rules.proofs.Tests.{all-member, bounds, first, member-at, second}
+use Rattle.rules.proofs.Tests.{all-member, bounds, member-at, picked}
 use Rattle.rules.specs.Agreed.{_∈_}
 use Rattle.rules.specs.Codes.{Argument, Deed, Item, Row, asks, forges, invoices, known, pays, replies, rowOf, row, rows, starts}
-use Rattle.rules.specs.Forged.{copied, given, gives}
+use Rattle.rules.specs.Forged.{copied, given, gives, itemOr}
 use Rattle.rules.specs.Items.{holding, inRange, isKind, placed, yields}
-use Rattle.rules.specs.Run.{stepWidth}
 use Rattle.rules.specs.Step.{Step, accepted, added, argumentsOf, codeOf, judge}
 
 -- what a row must have so that a message can be built: the messages that an honest step names; of a forged message a response code,
@@ -52,51 +50,32 @@ module _ (ks : List Argument) where
 
 pub two-named : (ks : List Argument) (a b : Kind) → (gives (Argument.the a) ks && gives (Argument.the b) ks) ≡ true
     → (gives (Argument.the a) ks ≡ true) × (gives (Argument.the b) ks ≡ true)
-two-named ks a b e =
-    let p = gives (Argument.the a) ks in
-    let q = gives (Argument.the b) ks in
-    (first p q e, second p q e)
+two-named ks a b e = (left-of _ _ e, right-of (gives (Argument.the a) ks) _ e)
 
-abbrev six : ℕ
-six = stepWidth - 1
+abbrev completeRow : Row → Bool
+completeRow x = complete (x .takes) (x .deed)
 
-abbrev rightRow : Row → Bool
-rightRow x = leb (length (x .takes)) six && complete (x .takes) (x .deed)
+complete-rows : all completeRow rows ≡ true
+complete-rows = refl
 
-right-rows : all rightRow rows ≡ true
-right-rows = refl
-
-right-row : (code : ℕ) → known code ≡ true → rightRow (rowOf code) ≡ true
-right-row code e =
-    all-member rightRow rows (rowOf code) right-rows
+row-complete : (code : ℕ) → known code ≡ true → completeRow (rowOf code) ≡ true
+row-complete code e =
+    all-member completeRow rows (rowOf code) complete-rows
     (member-at rows (row starts []) (code - 1) (omega (arith, bounds 1 code (length rows) e)))
 
--- a step of seven numbers that was accepted
+-- what is known of an accepted step
 pub record Taken (room : ℕ) (R : Record) (d : Deed) (ks : List Argument) (xs : List ℕ) : Type 0 where
   pub passed : Passed room R d ks xs
   pub complete-row : complete ks d ≡ true
-  pub enough : length ks ≤ length xs
 
 -- what holds of the message of every deed holds of the message that an accepted step adds
-pub by-deed : (answers room : ℕ) (R : Record) (s : Step) (x : Message) (Q : Message → Type 0) → length s ≡ stepWidth
-    → judge answers room R s ≡ accepted x
+pub by-deed : (answers room : ℕ) (R : Record) (s : Step) (x : Message) (Q : Message → Type 0) → judge answers room R s ≡ accepted x
     → ((d : Deed) (ks : List Argument) (xs : List ℕ) → Taken room R d ks xs → Q (added R ks xs answers d)) → Q x
-by-deed answers room R s x Q l e each-deed =
+by-deed answers room R s x Q e each-deed =
     let a = is-accepted answers room R s x e in
     let y = rowOf (codeOf s) in
-    let right = right-row (codeOf s) (a .coded) in
     subst Q (sym (a .message))
-    (each-deed (y .deed) (y .takes) (argumentsOf s)
-    (record {
-      passed = a .passed;
-      complete-row = second (leb (length (y .takes)) six) (complete (y .takes) (y .deed)) right;
-      enough =
-          omega (
-            arith,
-            leb-true (length (y .takes)) six (first (leb (length (y .takes)) six) (complete (y .takes) (y .deed)) right),
-            length-drop 1 s,
-          );
-    }))
+    (each-deed (y .deed) (y .takes) (argumentsOf s) (record { passed = a .passed; complete-row = row-complete (codeOf s) (a .coded) }))
 
 pub member-place : (R : Record) (k : ℕ) → between 1 k (length R) ≡ true → messageAt R (record { 0 = k }) ∈ R
 member-place R k e = member-at R [] (k - 1) (omega (arith, bounds 1 k (length R) e))
@@ -104,15 +83,15 @@ member-place R k e = member-at R [] (k - 1) (omega (arith, bounds 1 k (length R)
 module _ {room : ℕ} {R : Record} {d : Deed} {ks : List Argument} {xs : List ℕ} (t : Taken room R d ks xs) where
   -- an argument that the row has, in its range
   pub ranged : (k : Argument) → gives k ks ≡ true → inRange k (given k ks xs) ≡ true
-  ranged k g = passed-given inRange k ks xs (t .enough) (t .passed .ranged) g
+  ranged k g = passed-given k inRange ks xs (t .passed .ranged) g
 
   -- the message at a place that the step gives stands in the record, and holds what is wanted there
   at-place : (k : Argument) → ((n x : ℕ) → placed n k x ≡ between 1 x n) → gives k ks ≡ true
       → (messageAt R (record { 0 = given k ks xs }) ∈ R) × (holding R k (given k ks xs) ≡ true)
   at-place k p g = (
     member-place R (given k ks xs)
-        (sym (p (length R) (given k ks xs)) ∙ passed-given (placed (length R)) k ks xs (t .enough) (t .passed .places) g),
-    passed-given (holding R) k ks xs (t .enough) (t .passed .held) g,
+        (sym (p (length R) (given k ks xs)) ∙ passed-given k (placed (length R)) ks xs (t .passed .places) g),
+    passed-given k (holding R) ks xs (t .passed .held) g,
   )
 
   -- an honest step names a message of the kind that its row says
@@ -122,5 +101,13 @@ module _ {room : ℕ} {R : Record} {d : Deed} {ks : List Argument} {xs : List �
   named k = at-place (Argument.the k) (λ n x. refl)
 
   -- the outsider copies an item from a message that yields it
-  pub copied-from : (i : Item) → gives (Argument.at i) ks ≡ true → (copied R ks xs i ∈ R) × (yields i (copied R ks xs i) ≡ true)
+  copied-from : (i : Item) → gives (Argument.at i) ks ≡ true → (copied R ks xs i ∈ R) × (yields i (copied R ks xs i) ≡ true)
   copied-from i = at-place (Argument.at i) (λ n x. refl)
+
+  -- what holds of the item in every message that yields it, and of what is built in its place, holds of the item
+  pub item-of : {A : Type 0} (P : A → Type 0) (i : Item) (read : Message → A) (built : A)
+      → ((w : Message) → w ∈ R → yields i w ≡ true → P (read w)) → (gives (Argument.at i) ks ≡ false → P built)
+      → P (itemOr R ks xs i read built)
+  item-of P i read built reads builds =
+      let w = copied R ks xs i in
+      picked P (gives (Argument.at i) ks) (read w) built (λ g. let c = copied-from i g in reads w (c .0) (c .1)) builds

@@ -6,14 +6,16 @@ use mathlib.Core.Logic.{⊎-elim}
 use mathlib.Core.Path.{_≡_, _∙_, refl, sym, ap}
 use Prim.Native.Nat.{ℕ, _%_, _*_, _+_, _≤_}
 use borrow.Author.Tests.{eqb-false, le-leb, leb-true}
-use lib.Dec.{eqb, leb}
+use lib.Dec.{eqb}
 use lib.ListN.{length, length-append}
 use native.Mathlib.Omega.{arith}
+use Rattle.record.proofs.Chain.{left-of, right-of}
+use Rattle.record.proofs.Cut.{length-cut}
 use Rattle.record.specs.Lawful.{Range, accounts, buyers, codes, draws, fits, lawful, markRanges, sellers, slipRanges, within}
 use Rattle.record.specs.Layout.{AuthRequest, AuthResponse, Initiate, Invoice, Kind, Payment, body, destination, invoiceSigned, messageWidth, paymentSigned, replySigned, requestBuyerSigned, requestSigned, requestSlip, source}
 use Rattle.record.specs.Parts.{Message, accountOf, buyerAt, drawnAt, drawnNumbers, drawnWidth, hashedAt, hashedWidth, markAt, markNumbers, markWidth, sellerAt, slipAt, slipNumbers, slipWidth}
 use Rattle.record.specs.Signed.{buyerSignedAt, buyerSignedWidth, invoiceSignedWidth, replySignedWidth, requestSignedWidth}
-use Rattle.record.specs.Table.{Record, lawfulRecord, messageAt, messages, mostRoom, roomOf}
+use Rattle.record.specs.Table.{Record, messageAt, messages, mostRoom, roomOf}
 use Rattle.record.specs.Tests.{all}
 use Rattle.record.specs.declared.parts.Account.{Account}
 use Rattle.record.specs.declared.parts.Buyer.{Buyer}
@@ -21,21 +23,20 @@ use Rattle.record.specs.declared.parts.Drawn.{Drawn}
 use Rattle.record.specs.declared.parts.Mark.{Mark}
 use Rattle.record.specs.declared.parts.Seller.{Seller}
 use Rattle.record.specs.declared.parts.Slip.{Slip}
-use Rattle.record.proofs.Cut.{length-cut}
 use Rattle.rules.proofs.Accepted.{is-accepted}
 use Rattle.rules.proofs.Arguments.{not-given, passed-given}
-use Rattle.rules.proofs.Deeds.{Taken, by-deed, copied-from, hashedBuilt, markBuilt, member-place, named, ranged, slipBuilt, two-named}
+use Rattle.rules.proofs.Deeds.{Taken, by-deed, hashedBuilt, item-of, markBuilt, member-place, named, ranged, slipBuilt, two-named}
 use Rattle.rules.proofs.Ranges.{BuyerSigned✓, Hashed✓, InvoiceSigned✓, Mark✓, ReplySigned✓, RequestSigned✓, Slip✓, fits-append, fits-at, fits-part, lawful-initiate, lawful-invoice, lawful-number, lawful-part, lawful-payment, lawful-reply, lawful-request}
 use Rattle.rules.proofs.Reached.{kept-reached}
-use Rattle.rules.proofs.Tests.{all-append, all-member, both, bounded, either, first, other, picked, second}
+use Rattle.rules.proofs.Tests.{all-append, all-member, both, bounded, either, other, picked}
 use Rattle.rules.specs.Agreed.{_∈_}
 use Rattle.rules.specs.Codes.{Argument, Deed, Item, asks, forges, invoices, pays, replies, starts}
-use Rattle.rules.specs.Forged.{account, buyer, buyerSignature, code, copied, drawn, given, gives, hashed, invoiceSignature, itemOr, mark, noBuyer, noGateway, noSeller, replySignature, requestSignature, seller, slip}
+use Rattle.rules.specs.Forged.{account, buyer, buyerSignature, code, drawn, given, gives, hashed, invoiceSignature, itemOr, mark, noBuyer, noGateway, noSeller, replySignature, requestSignature, seller, slip}
 use Rattle.rules.specs.Honest.{codeFor, good, house, markFor, orderMark, slipUnder}
 use Rattle.rules.specs.Items.{buyerSignedIn, drawnIn, hasSlip, hashedIn, holding, inRange, invoiceSignedIn, isKind, markIn, placed, readable, replySignedIn, requestSignedIn, slipIn, yields}
-use Rattle.rules.specs.Reached.{HoldsReached, Reached}
-use Rattle.rules.specs.Run.{stepWidth}
+use Rattle.rules.specs.Reached.{Reached}
 use Rattle.rules.specs.Step.{Step, accepted, added, judge, judgeTable, refused, theBuyer, theInitiate, theInvoice, thePayment, theRequest, theSeller}
+use Rattle.rules.specs.Theorems.{ReachedLawful, StepAsRun, TableLawful}
 
 abbrev Account✓ : Account → Type 0
 Account✓ a = within accounts (a .0) ≡ true
@@ -85,7 +86,7 @@ module _ (w : Message) (l : lawful w ≡ true) where
       (λ n. lawful-part AuthRequest w l (other (isKind Payment w) (isKind AuthRequest w) e n) requestBuyerSigned buyerSignedWidth)
 
   readable-slip : readable w ≡ true → Slip✓ (slipIn w)
-  readable-slip e = slip-in (first (hasSlip w) (eqb (slipIn w .key .0) 0) e)
+  readable-slip e = slip-in (left-of _ _ e)
 
   drawn-in : yields Item.r w ≡ true → Drawn✓ (drawnIn w)
   drawn-in e =
@@ -101,10 +102,7 @@ module _ {room : ℕ} {R : Record} {d : Deed} {ks : List Argument} {xs : List �
   item✓ : {A : Type 0} (P : A → Type 0) (i : Item) (read : Message → A) (built : A)
       → ((w : Message) → lawful w ≡ true → yields i w ≡ true → P (read w)) → (gives (Argument.at i) ks ≡ false → P built)
       → P (itemOr R ks xs i read built)
-  item✓ P i read built reads builds =
-      let w = copied R ks xs i in
-      picked P (gives (Argument.at i) ks) (read w) built
-      (λ g. let c = copied-from t i g in reads w (lawful-at w (c .0)) (c .1)) builds
+  item✓ P i read built reads builds = item-of t P i read built (λ w m y. reads w (lawful-at w m) y) builds
 
   -- a party that the row does not give is 0
   given-party : (k : Argument) (r : Range) → ((x : ℕ) → inRange k x ≡ within r x) → within r 0 ≡ true → within r (given k ks xs) ≡ true
@@ -134,8 +132,8 @@ module _ {room : ℕ} {R : Record} {d : Deed} {ks : List Argument} {xs : List �
       by-cases : eqb n 0 ≡ false → (b : Bool) → gives Argument.a ks ≡ b → Slip✓ (slipIn w)
       by-cases e false g = absurd (eqb-false n 0 e (not-given Argument.a ks xs g))
       by-cases e true g =
-          let most : n ≤ length R = leb-true n (length R) (passed-given (placed (length R)) Argument.a ks xs (t .enough) (t .passed .places) g) in
-          let held = passed-given (holding R) Argument.a ks xs (t .enough) (t .passed .held) g in
+          let most : n ≤ length R = leb-true n (length R) (passed-given Argument.a (placed (length R)) ks xs (t .passed .places) g) in
+          let held = passed-given Argument.a (holding R) ks xs (t .passed .held) g in
           let least : 1 ≤ n = omega (arith, eqb-false n 0 e) in
           readable-slip w (lawful-at w (member-place R n (bounded 1 n (length R) least most)))
           (other (eqb n 0) (readable w) held e)
@@ -167,8 +165,8 @@ module _ {room : ℕ} {R : Record} {d : Deed} {ks : List Argument} {xs : List �
       item✓ Slip✓ Item.e slipIn (slipUnder house (mark R ks xs) (account R ks xs) (drawn R ks xs)) slip-in
       (λ n.
       let built = other (gives (Argument.at Item.e) ks) (markBuilt ks && has-r) e n in
-      slip-of (mark R ks xs) (account R ks xs) (drawn R ks xs) (mark✓ (first (markBuilt ks) has-r built)) account✓
-      (drawn✓ (second (markBuilt ks) has-r built)))
+      slip-of (mark R ks xs) (account R ks xs) (drawn R ks xs) (mark✓ (left-of _ _ built)) account✓
+      (drawn✓ (right-of (markBuilt ks) _ built)))
 
   invoice-signed✓ : markBuilt ks ≡ true → InvoiceSigned✓ (invoiceSignature R ks xs)
   invoice-signed✓ e =
@@ -260,54 +258,47 @@ module _ (answers room : ℕ) (small : room ≤ mostRoom) (R : Record) (ks : Lis
       lawful-invoice noSeller (seller R ks xs) (buyer R ks xs) (mark R ks xs) (invoiceSignature R ks xs) refl (seller✓ all-lawful t)
       (buyer✓ all-lawful t) (mark✓ all-lawful t (t .complete-row)) (invoice-signed✓ all-lawful t (t .complete-row))
   lawful-added (forges Payment) t =
-      let signed = gives (Argument.at Item.p) ks || markBuilt ks in
-      let e = first (slipBuilt ks) signed (t .complete-row) in
+      let e = left-of (slipBuilt ks) (gives (Argument.at Item.p) ks || markBuilt ks) (t .complete-row) in
       lawful-payment noBuyer (buyer R ks xs) (seller R ks xs) (slip R ks xs) (buyerSignature R ks xs) refl (buyer✓ all-lawful t)
-      (seller✓ all-lawful t) (slip✓ all-lawful t e) (buyer-signed✓ all-lawful t e (second (slipBuilt ks) signed (t .complete-row)))
+      (seller✓ all-lawful t) (slip✓ all-lawful t e) (buyer-signed✓ all-lawful t e (right-of (slipBuilt ks) _ (t .complete-row)))
   lawful-added (forges AuthRequest) t =
-      let e = first (slipBuilt ks) (markBuilt ks) (t .complete-row) in
-      let f = second (slipBuilt ks) (markBuilt ks) (t .complete-row) in
+      let e = left-of (slipBuilt ks) (markBuilt ks) (t .complete-row) in
+      let f = right-of (slipBuilt ks) (markBuilt ks) (t .complete-row) in
       lawful-request noSeller (seller R ks xs) house (mark R ks xs) (slip R ks xs) (requestSignature R ks xs) (buyerSignature R ks xs) refl
       (seller✓ all-lawful t) refl (mark✓ all-lawful t f) (slip✓ all-lawful t e) (request-signed✓ all-lawful t e f)
       (buyer-signed✓ all-lawful t e (ap (λ (b : Bool). gives (Argument.at Item.p) ks || b) f ∙ or-true (gives (Argument.at Item.p) ks)))
   lawful-added (forges AuthResponse) t =
-      let signed = gives (Argument.at Item.g) ks || markBuilt ks in
-      let c = ranged t Argument.c (first (gives Argument.c ks) signed (t .complete-row)) in
+      let c = ranged t Argument.c (left-of _ _ (t .complete-row)) in
       lawful-reply noGateway house (seller R ks xs) (code R ks xs) (replySignature R ks xs) refl refl (seller✓ all-lawful t) c
-      (reply-signed✓ all-lawful t c (second (gives Argument.c ks) signed (t .complete-row)))
+      (reply-signed✓ all-lawful t c (right-of (gives Argument.c ks) _ (t .complete-row)))
 
 -- every message of a reached record is lawful
-pub reached-lawful : (answers room : ℕ) → room ≤ mostRoom → (R : Record) → Reached answers room R → all lawful R ≡ true
+pub reached-lawful : ReachedLawful
 reached-lawful answers room small R r = kept-reached answers room (λ (T : Record). all lawful T ≡ true) keep R r refl
   where
-    keep : (T : Record) (s : Step) (x : Message) → length s ≡ stepWidth → all lawful T ≡ true → judge answers room T s ≡ accepted x
-        → all lawful (T ++ (x ∷ [])) ≡ true
-    keep T s x l p e =
+    keep : (T : Record) (s : Step) (x : Message) → all lawful T ≡ true → judge answers room T s ≡ accepted x → all lawful (T ++ (x ∷ [])) ≡ true
+    keep T s x p e =
         all-append lawful T (x ∷ []) p
-        (both
-        (by-deed answers room T s x (λ (y : Message). lawful y ≡ true) l e (λ d ks xs. lawful-added answers room small T ks xs p d))
-        refl)
+        (both (by-deed answers room T s x (λ (y : Message). lawful y ≡ true) e (λ d ks xs. lawful-added answers room small T ks xs p d)) refl)
 
 -- a reached record has no more messages than room
 pub reached-room : (answers room : ℕ) (R : Record) → Reached answers room R → length R ≤ room
 reached-room answers room R r = kept-reached answers room (λ (T : Record). length T ≤ room) keep R r (omega arith)
   where
-    keep : (T : Record) (s : Step) (x : Message) → length s ≡ stepWidth → length T ≤ room → judge answers room T s ≡ accepted x
-        → length (T ++ (x ∷ [])) ≤ room
-    keep T s x l p e = omega (arith, is-accepted answers room T s x e .passed .roomy, length-append T (x ∷ []))
+    keep : (T : Record) (s : Step) (x : Message) → length T ≤ room → judge answers room T s ≡ accepted x → length (T ++ (x ∷ [])) ≤ room
+    keep T s x p e = omega (arith, is-accepted answers room T s x e .passed .roomy, length-append T (x ∷ []))
 
-module _ (answers n : ℕ) (t : List ℕ) (h : HoldsReached answers n t) where
-  -- refusal 1 is not met
-  pub table-lawful : lawfulRecord n t ≡ true
-  table-lawful =
-      let R = messages n t in
-      let most = leb-true (length t) (mostRoom * messageWidth) (second (eqb (length t % messageWidth) 0) (leb (length t) (mostRoom * messageWidth)) (h .measured)) in
-      both (h .measured)
-      (both (le-leb n (roomOf t) (omega (arith, reached-room answers (roomOf t) R (h .reached), length-cut messageWidth n t)))
-      (reached-lawful answers (roomOf t) (omega arith) R (h .reached)))
+-- refusal 1 is not met
+pub table-lawful : TableLawful
+table-lawful answers n t h =
+    let R = messages n t in
+    let most = leb-true (length t) (mostRoom * messageWidth) (right-of (eqb (length t % messageWidth) 0) _ (h .measured)) in
+    both (h .measured)
+    (both (le-leb n (roomOf t) (omega (arith, reached-room answers (roomOf t) R (h .reached), length-cut messageWidth n t)))
+    (reached-lawful answers (roomOf t) (omega arith) R (h .reached)))
 
-  -- so a step says of the table what it says of the record
-  pub table-judged : (s : Step) → judgeTable answers n t s ≡ judge answers (roomOf t) (messages n t) s
-  unfolding judgeTable
-  table-judged s =
-      ap (λ (b : Bool). cond b (judge answers (roomOf t) (messages n t) s) (refused 1)) table-lawful
+-- so a step says of the table what it says of the record
+pub step-as-run : StepAsRun
+unfolding judgeTable
+step-as-run answers n t h s =
+    ap (λ (b : Bool). cond b (judge answers (roomOf t) (messages n t) s) (refused 1)) (table-lawful answers n t h)

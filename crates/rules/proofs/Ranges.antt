@@ -6,6 +6,7 @@ use Prim.Native.Nat.{ℕ, zero, suc, _-_}
 use borrow.Author.Tests.{eqb-true}
 use lib.Dec.{eqb}
 use lib.ListN.{getD, length, replicate}
+use Rattle.record.proofs.Chain.{left-of, right-of}
 use Rattle.record.specs.Lawful.{Range, buyers, codes, fits, gateways, hashedRanges, kindRanges, kinds, lawful, markRanges, sellers, slipRanges, unused, within}
 use Rattle.record.specs.Layout.{Kind, aPayment, anAuthRequest, anAuthResponse, anInitiate, anInvoice, filled, kindNumber, kindOf, messageWidth}
 use Rattle.record.specs.Parts.{Message, hashedNumbers, markNumbers, slipNumbers}
@@ -20,7 +21,7 @@ use Rattle.record.specs.declared.signed.BuyerSigned.{BuyerSigned}
 use Rattle.record.specs.declared.signed.InvoiceSigned.{InvoiceSigned}
 use Rattle.record.specs.declared.signed.ReplySigned.{ReplySigned}
 use Rattle.record.specs.declared.signed.RequestSigned.{RequestSigned}
-use Rattle.rules.proofs.Tests.{both, first, second}
+use Rattle.rules.proofs.Tests.{both}
 use Rattle.rules.specs.Items.{isKind}
 
 pub fits-append : (rs ss : List Range) (xs ys : List ℕ) → fits rs xs ≡ true → fits ss ys ≡ true → fits (rs ++ ss) (xs ++ ys) ≡ true
@@ -28,13 +29,13 @@ fits-append [] ss [] ys p q = q
 fits-append [] ss (x ∷ xs) ys p q = absurd (false≢true p)
 fits-append (r ∷ rs) ss [] ys p q = absurd (false≢true p)
 fits-append (r ∷ rs) ss (x ∷ xs) ys p q =
-    both (first (within r x) (fits rs xs) p) (fits-append rs ss xs ys (second (within r x) (fits rs xs) p) q)
+    both (left-of (within r x) _ p) (fits-append rs ss xs ys (right-of (within r x) _ p) q)
 
 fits-length : (rs : List Range) (xs : List ℕ) → fits rs xs ≡ true → length rs ≡ length xs
 fits-length [] [] p = refl
 fits-length [] (x ∷ xs) p = absurd (false≢true p)
 fits-length (r ∷ rs) [] p = absurd (false≢true p)
-fits-length (r ∷ rs) (x ∷ xs) p = ap suc (fits-length rs xs (second (within r x) (fits rs xs) p))
+fits-length (r ∷ rs) (x ∷ xs) p = ap suc (fits-length rs xs (right-of (within r x) _ p))
 
 fits-unused : (n : ℕ) → fits (replicate n unused) (replicate n 0) ≡ true
 fits-unused zero = refl
@@ -52,8 +53,8 @@ pub fits-at : (rs : List Range) (xs : List ℕ) → fits rs xs ≡ true → (i :
 fits-at [] [] p i = refl
 fits-at [] (x ∷ xs) p i = absurd (false≢true p)
 fits-at (r ∷ rs) [] p i = absurd (false≢true p)
-fits-at (r ∷ rs) (x ∷ xs) p zero = first (within r x) (fits rs xs) p
-fits-at (r ∷ rs) (x ∷ xs) p (suc i) = fits-at rs xs (second (within r x) (fits rs xs) p) i
+fits-at (r ∷ rs) (x ∷ xs) p zero = left-of _ _ p
+fits-at (r ∷ rs) (x ∷ xs) p (suc i) = fits-at rs xs (right-of (within r x) _ p) i
 
 -- n entries of a list from a position on
 abbrev pub entries : {A : Type 0} → A → List A → ℕ → ℕ → List A
@@ -72,7 +73,7 @@ module _ (k : Kind) (w : Message) (l : lawful w ≡ true) (e : isKind k w ≡ tr
   kind-fits : fits (rangesOf k) w ≡ true
   kind-fits =
       subst (λ (j : ℕ). fits (getD kindRanges (j - 1) []) w ≡ true) (eqb-true (kindOf w) (kindNumber k) e)
-      (second (eqb (length w) messageWidth) (fits (getD kindRanges (kindOf w - 1) []) w) l)
+      (right-of (eqb (length w) messageWidth) _ l)
 
   pub lawful-number : (i : ℕ) → within (getD (rangesOf k) i unused) (getD w i 0) ≡ true
   lawful-number = fits-at (rangesOf k) w kind-fits

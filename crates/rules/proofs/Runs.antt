@@ -1,36 +1,35 @@
 -- The theorems hold of whatever a run leaves in the table that it was lent: cut into messages, it is the record that the steps lead to.
-use mathlib.Core.Bool.{Bool, true, false, cond, _&&_}
+use mathlib.Core.Bool.{true, _&&_}
 use mathlib.Core.List.{List, [], _∷_, _++_, append-assoc, List·Memᴰ·head, List·Memᴰ·tail}
 use mathlib.Core.Path.{_≡_, _∙_, refl, sym, ap, ap₂, subst, subst₂}
 use Prim.Native.Nat.{ℕ, zero, suc, _+_, _*_, _/_, _%_, _≤_}
-use borrow.Author.Tests.{eq-eqb, eqb-true}
+use borrow.Author.Tests.{eqb-true}
 use lib.Dec.{eqb, leb}
-use lib.ListN.{List·getD-append, drop, getD, length, length-append, length-drop, length-take, take}
+use lib.ListN.{List·getD-append, drop, getD, length, length-append, length-drop, take}
 use lib.Seq.{drop-append-le, drop-at, take-append-le, take-at}
-use native.Mathlib.Nat.{suc-add, suc-mul, zero-add}
+use native.Mathlib.Nat.{suc-add, suc-mul, zero-add, zero-mul}
 use native.Mathlib.Omega.{arith}
+use Rattle.record.proofs.Chain.{left-of}
 use Rattle.record.proofs.Cut.{length-cut}
-use Rattle.record.specs.Lawful.{between}
 use Rattle.record.specs.Layout.{messageWidth}
 use Rattle.record.specs.Parts.{Message}
 use Rattle.record.specs.Table.{Record, cut, messages, mostRoom, roomOf, whole}
-use Rattle.record.specs.Tests.{all}
-use Rattle.rules.proofs.Accepted.{passes}
-use Rattle.rules.proofs.LawfulReached.{reached-room, table-judged, table-lawful}
+use Rattle.rules.proofs.Gates.{Open, all-open, passes}
 use Rattle.rules.proofs.Laid.{full-length}
-use Rattle.rules.proofs.Reached.{played-append, prefix}
-use Rattle.rules.proofs.Reports.{agreed-at, never-22, report-on}
-use Rattle.rules.proofs.Session.{Placed, placed-new, session}
-use Rattle.rules.proofs.Tests.{both, first}
+use Rattle.rules.proofs.LawfulReached.{reached-room, step-as-run, table-lawful}
+use Rattle.rules.proofs.Reached.{played-append, prefixes}
+use Rattle.rules.proofs.Reports.{never-22, reports}
+use Rattle.rules.proofs.Agreement.{agreement}
+use Rattle.rules.proofs.Session.{Placed, placed-new, sessions}
 use Rattle.rules.proofs.Vouched.{reached-sound}
-use Rattle.rules.specs.Agreed.{Reported, _∈_}
-use Rattle.rules.specs.Gates.{_unless_}
+use Rattle.rules.specs.Agreed.{HouseReplyAt, Reported, _∈_}
 use Rattle.rules.specs.Promised.{Kept, sessionAfter}
-use Rattle.rules.specs.Reached.{HoldsReached, Reached, seven}
+use Rattle.rules.specs.Reached.{HoldsReached, Reached}
 use Rattle.rules.specs.Report.{houseReply, replyMark, report}
-use Rattle.rules.specs.Run.{Ran, flat, mostSteps, over, played, run, stepCount, stepWidth, stepsOf, verdicts, wholeSteps}
-use Rattle.rules.specs.Session.{R2, R3, R4, R5, R6, Setting, sessionReply, sessionSteps, step1, step2, step3, step4, step5}
-use Rattle.rules.specs.Step.{Step, judge, newPlace, numberOf, recordAfter}
+use Rattle.rules.specs.Run.{Ran, flat, over, played, run, runGates, runPlayed, runRefused, stepCount, stepWidth, stepsOf, verdicts, wholeSteps}
+use Rattle.rules.specs.Session.{R2, R3, R4, R5, R6, Setting, place5, sessionReply, sessionSteps, step1, step2, step3, step4, step5}
+use Rattle.rules.specs.Step.{Step, judge, numberOf, recordAfter}
+use Rattle.rules.specs.Theorems.{RunKeeps, RunPrefixes}
 
 -- messages written one after the other and cut again
 abbrev FullLength : Record → Type 0
@@ -54,30 +53,21 @@ cut-flat (x ∷ R) rest h =
     l : length x ≡ messageWidth
     l = h x (List·Memᴰ·head refl)
 
--- the steps of a run are of seven numbers
-cut-even : (n : ℕ) (xs : List ℕ) → n * stepWidth ≤ length xs → all seven (cut stepWidth n xs) ≡ true
-cut-even zero xs h = refl
-cut-even (suc n) xs h =
-    both (eq-eqb (length (take stepWidth xs)) stepWidth (length-take stepWidth xs ∙ omega (arith, suc-mul n stepWidth)))
-    (cut-even n (drop stepWidth xs) (omega (arith, length-drop stepWidth xs, suc-mul n stepWidth)))
-
--- a list that is continued has the same first steps
-cut-append : (n m : ℕ) (xs ys : List ℕ) → length xs ≡ n * stepWidth → cut stepWidth (n + m) (xs ++ ys) ≡ cut stepWidth n xs ++ cut stepWidth m ys
-cut-append zero m [] ys e = ap (λ (k : ℕ). cut stepWidth k ys) (zero-add m)
-cut-append zero m (x ∷ xs) ys e = absurd (omega arith)
-cut-append (suc n) m xs ys e =
-    let most : stepWidth ≤ length xs = omega (arith, suc-mul n stepWidth) in
-    ap (λ (k : ℕ). cut stepWidth k (xs ++ ys)) (suc-add n m)
-    ∙ ap₂ _∷_ (take-append-le stepWidth xs ys most)
-    (ap (cut stepWidth (n + m)) (drop-append-le stepWidth xs ys most)
-    ∙ cut-append n m (drop stepWidth xs) ys (omega (arith, length-drop stepWidth xs, suc-mul n stepWidth)))
+-- a list that is continued has the same first pieces
+cut-append : (w n m : ℕ) (xs ys : List ℕ) → length xs ≡ n * w → cut w (n + m) (xs ++ ys) ≡ cut w n xs ++ cut w m ys
+cut-append w zero m [] ys e = ap (λ (k : ℕ). cut w k ys) (zero-add m)
+cut-append w zero m (x ∷ xs) ys e = absurd (omega (arith, zero-mul w))
+cut-append w (suc n) m xs ys e =
+    let most : w ≤ length xs = omega (arith, suc-mul n w) in
+    ap (λ (k : ℕ). cut w k (xs ++ ys)) (suc-add n m)
+    ∙ ap₂ _∷_ (take-append-le w xs ys most)
+    (ap (cut w (n + m)) (drop-append-le w xs ys most) ∙ cut-append w n m (drop w xs) ys (length-drop w xs ∙ omega (arith, suc-mul n w)))
 
 steps-append : (xs ys : List ℕ) → wholeSteps xs ≡ true → stepsOf (xs ++ ys) ≡ stepsOf xs ++ stepsOf ys
 steps-append xs ys e =
-    let even = eqb-true (length xs % stepWidth) 0 (first (eqb (length xs % stepWidth) 0) (leb (length xs) (mostSteps * stepWidth)) e) in
+    let even = eqb-true (length xs % stepWidth) 0 (left-of _ _ e) in
     let counted : stepCount (xs ++ ys) ≡ stepCount xs + stepCount ys = omega (arith, length-append xs ys) in
-    ap (λ (k : ℕ). cut stepWidth k (xs ++ ys)) counted
-    ∙ cut-append (stepCount xs) (stepCount ys) xs ys (omega arith)
+    ap (λ (k : ℕ). cut stepWidth k (xs ++ ys)) counted ∙ cut-append stepWidth (stepCount xs) (stepCount ys) xs ys (omega arith)
 
 -- the verdict of a step is its number against what the steps before it left
 module _ (answers room : ℕ) where
@@ -93,61 +83,37 @@ module _ (answers room : ℕ) where
   verdict-at R (r ∷ ss) s ts = verdict-at (recordAfter R (judge answers room R r)) ss s ts
 
 -- a session played as one list
-session-played : (c : Setting) (after5 : List Step) → played (c .answers) (c .room) (c .R1) (sessionSteps c after5) ≡ R6 c after5
+session-played : (c : Setting) (after5 : List Step) → played (c .answers) (c .room) (c .start) (sessionSteps c after5) ≡ R6 c after5
 session-played c after5 =
     let joined = played-append (c .answers) (c .room) in
     let l5 = step5 c ∷ after5 in
     let l4 = step4 c ∷ (c .after4 ++ l5) in
     let l3 = step3 c ∷ (c .after3 ++ l4) in
     let l2 = step2 c ∷ (c .after2 ++ l3) in
-    joined (c .R1) (step1 c ∷ c .after1) l2
+    joined (c .start) (step1 c ∷ c .after1) l2
     ∙ joined (R2 c) (step2 c ∷ c .after2) l3
     ∙ joined (R3 c) (step3 c ∷ c .after3) l4
     ∙ joined (R4 c) (step4 c ∷ c .after4) l5
-
--- a run that returns 0 has passed its three gates
-numbered-open : (b : Bool) (r : Ran) (shut : ℕ → Ran) (k : ℕ) → (shut (suc k) .number ≡ suc k) → cond b r (shut (suc k)) .number ≡ 0
-    → (b ≡ true) × (r .number ≡ 0)
-numbered-open true r shut k e z = (refl, z)
-numbered-open false r shut k e z = absurd (omega arith)
 
 module _ (answers : ℕ) (t xs bytes : List ℕ) where
   abbrev R : Record
   R = played answers (roomOf t) [] (stepsOf xs)
 
-  -- what it then returns and leaves
   abbrev done : Ran
-  done =
-      record {
-        number = 0;
-        n = length R;
-        table = over (flat R) t;
-        verdictBytes = over (verdicts answers (roomOf t) [] (stepsOf xs)) bytes;
-      }
+  done = runPlayed answers t xs bytes
 
-  abbrev refuse : ℕ → Ran
-  refuse k = record { number = k; n = 0; table = t; verdictBytes = bytes }
-
-  ran-through : run answers t xs bytes .number ≡ 0
-      → (whole t ≡ true) × (wholeSteps xs ≡ true) × (leb (stepCount xs) (length bytes) ≡ true)
+  -- a run that returns 0 has passed its three gates
+  ran-through : run answers t xs bytes .number ≡ 0 → Open (runGates answers t xs bytes)
   unfolding run
   ran-through z =
-      let last = cond (leb (stepCount xs) (length bytes)) done (refuse 9) in
-      let rest = cond (wholeSteps xs) last (refuse 8) in
-      let a = numbered-open (whole t) rest refuse 0 refl z in
-      let b = numbered-open (wholeSteps xs) last refuse 7 refl (a .1) in
-      (a .0, b .0, numbered-open (leb (stepCount xs) (length bytes)) done refuse 8 refl (b .1) .0)
+      all-open (runRefused answers t xs bytes) done (λ (r : Ran). r .number ≡ 0) (λ k l q. omega arith) (runGates answers t xs bytes) refl z .0
 
   ran-done : run answers t xs bytes .number ≡ 0 → run answers t xs bytes ≡ done
   unfolding run
-  ran-done z =
-      let o = ran-through z in
-      passes (1 unless whole t ∷ 8 unless wholeSteps xs ∷ 9 unless leb (stepCount xs) (length bytes) ∷ []) refuse done
-      (o .0, (o .1, (o .2, tt)))
+  ran-done z = passes (runRefused answers t xs bytes) done (runGates answers t xs bytes) (ran-through z)
 
   reached : Reached answers (roomOf t) R
-  reached =
-      record { steps = stepsOf xs; sevens = cut-even (stepCount xs) xs (omega arith); left = refl }
+  reached = record { steps = stepsOf xs; left = refl }
 
   full : FullLength R
   full w m = let s = reached-sound answers (roomOf t) R reached w m in full-length (s .kind) w (s .laid)
@@ -186,15 +152,15 @@ module _ (answers : ℕ) (t xs bytes : List ℕ) where
         messages-left = left-is;
         verdict = done-verdict;
         lawful-left = table-lawful answers n after h;
-        judged = λ s. table-judged answers n after h s ∙ ap (λ (k : ℕ). judge answers (k / messageWidth) (messages n after) s) same-length;
-        agreed = agreed-at answers n after h;
-        reported = report-on answers n after h;
+        judged = λ s. step-as-run answers n after h s ∙ ap (λ (k : ℕ). judge answers (k / messageWidth) (messages n after) s) same-length;
+        agreed = agreement answers (roomOf after) (messages n after) (h .reached);
+        reported = reports answers n after h;
         never-22 = never-22 answers n after h;
         sessions =
             λ l0 l1 l2 l3 l4 l5 B S b✓ s✓ q roomy.
             let c = sessionAfter answers t xs done l0 B S l1 l2 l3 l4 in
-            let done-so = session c b✓ s✓ roomy in
-            let p = newPlace (R5 c) in
+            let all-five = sessions c (record { steps = l0; left = refl }) b✓ s✓ roomy in
+            let p = place5 c in
             let left-so : messages n after ≡ R6 c l5 =
             left-is
             ∙ ap (played answers (roomOf t) []) q
@@ -203,37 +169,34 @@ module _ (answers : ℕ) (t xs bytes : List ℕ) where
             in
             let placed-so : Placed (messages n after) p (sessionReply c) =
             subst (λ (T : Record). Placed T p (sessionReply c)) (sym left-so)
-            (placed-new answers (roomOf t) (R5 c) (step5 c) (sessionReply c) l5 (done-so .replies))
+            (placed-new answers (roomOf t) (R5 c) (step5 c) (sessionReply c) l5 (all-five .replies))
             in
-            let inside : between 1 (p .0) n ≡ true = ap (between 1 (p .0)) (sym (length-cut messageWidth n after)) ∙ placed-so .inside in (
-              done-so,
-              subst (λ (w : Message). Reported (replyMark w) (report n after p)) (placed-so .message)
-                  (report-on answers n after h p inside (ap houseReply (placed-so .message))),
+            let at-p : HouseReplyAt (messages n after) p =
+            record { inside = placed-so .inside; reply = ap houseReply (placed-so .message) }
+            in (
+              all-five,
+              subst (λ (w : Message). Reported (replyMark w) (report n after p)) (placed-so .message) (reports answers n after h p at-p),
             );
       }
 
 -- whatever a run leaves, when it returns 0
-pub run-keeps : (answers : ℕ) (t xs bytes : List ℕ) → run answers t xs bytes .number ≡ 0 → Kept answers t xs (run answers t xs bytes)
+pub run-keeps : RunKeeps
 run-keeps answers t xs bytes z =
     subst (Kept answers t xs) (sym (ran-done answers t xs bytes z)) (done-kept answers t xs bytes (ran-through answers t xs bytes z .0))
 
 -- with the same account answers and room, the messages left by a shorter list are the first messages of what a list that continues it leaves
-pub run-prefix : (answers : ℕ) (t u xs ys bytes more : List ℕ) → roomOf t ≡ roomOf u → run answers t xs bytes .number ≡ 0
-    → run answers u (xs ++ ys) more .number ≡ 0
-    → let shorter = run answers t xs bytes in
-    let longer = run answers u (xs ++ ys) more in
-    messages (shorter .n) (shorter .table) ≡ take (shorter .n) (messages (longer .n) (longer .table))
-run-prefix answers t u xs ys bytes more same-room y z =
+pub run-prefixes : RunPrefixes
+run-prefixes answers t u xs ys bytes more same-room y z =
     let shorter = run answers t xs bytes in
     let left-by = played answers (roomOf t) [] in
     let short = run-keeps answers t xs bytes y .messages-left in
     let long = run-keeps answers u (xs ++ ys) more z .messages-left in
-    let counted : length (left-by (stepsOf xs)) ≡ shorter .n =
-    ap length (sym short) ∙ length-cut messageWidth (shorter .n) (shorter .table)
+    let counted : shorter .n ≡ length (left-by (stepsOf xs)) =
+    sym (length-cut messageWidth (shorter .n) (shorter .table)) ∙ ap length short
     in
-    short
-    ∙ sym (prefix answers (roomOf t) (stepsOf xs) (stepsOf ys))
-    ∙ ap₂ take counted
-    (ap left-by (sym (steps-append xs ys (ran-through answers t xs bytes y .1)))
-    ∙ ap (λ (room : ℕ). played answers room [] (stepsOf (xs ++ ys))) same-room
-    ∙ sym long)
+    ap₂ take counted
+    (long
+    ∙ ap (λ (room : ℕ). played answers room [] (stepsOf (xs ++ ys))) (sym same-room)
+    ∙ ap left-by (steps-append xs ys (ran-through answers t xs bytes y .1 .0)))
+    ∙ prefixes answers (roomOf t) (stepsOf xs) (stepsOf ys)
+    ∙ sym short

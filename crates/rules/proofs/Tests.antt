@@ -1,5 +1,5 @@
 -- Laws of the tests that the definitions are made of: what a chain, a test of each element and a comparison say when they pass,
--- and when they pass.
+-- and when they pass. (The two halves of a chain are `left-of` and `right-of` of the record's `Chain`.)
 use mathlib.Core.Bool.{Bool, true, false, cond, _&&_, _||_, false≢true, true≢false}
 use mathlib.Core.List.{
   List,
@@ -7,32 +7,25 @@ use mathlib.Core.List.{
   List·Memᴰ·cases-cons,
   List·Memᴰ·head,
   List·Memᴰ·not-nil,
-  List·Memᴰ·tail,
+  Memᴰ·append-right,
   [],
   _++_,
   _∷_,
 }
 use mathlib.Core.Logic.{_⊎_, inl, inr, ⊎-elim}
-use mathlib.Core.Path.{_≡_, _∙_, refl, ap, ap₂, subst}
-use Prim.Native.Nat.{ℕ, zero, suc, _≤_, _<_}
+use mathlib.Core.Path.{_≡_, _∙_, refl, sym, ap, ap₂, subst}
+use Prim.Native.Nat.{ℕ, _≤_, _<_}
 use borrow.Author.Tests.{eq-eqb, eqb-true, le-leb, leb-true}
 use lib.Dec.{eqb, leb}
-use lib.ListN.{getD, length}
-use native.Mathlib.Nat.{le-of-suc-le-suc, not-suc-le-zero}
+use lib.ListN.{getD, length, take}
+use lib.Seq.{split-at}
+use Rattle.record.proofs.Chain.{left-of, right-of}
 use Rattle.record.specs.Lawful.{between}
 use Rattle.record.specs.Tests.{all, same}
 
--- both, and its two halves
+-- both of two tests, one of two, and the other of two
 pub both : {a b : Bool} → a ≡ true → b ≡ true → (a && b) ≡ true
-both {a} {b} p q = ap₂ (λ (x y : Bool). x && y) p q
-
-pub first : (a b : Bool) → (a && b) ≡ true → a ≡ true
-first true b e = refl
-first false b e = absurd (false≢true e)
-
-pub second : (a b : Bool) → (a && b) ≡ true → b ≡ true
-second true b e = e
-second false b e = absurd (false≢true e)
+both p q = ap₂ (λ (x y : Bool). x && y) p q
 
 pub either : (a b : Bool) → (a || b) ≡ true → (a ≡ true) ⊎ (b ≡ true)
 either true b e = inl refl
@@ -44,7 +37,7 @@ other false b e f = e
 
 -- a number between two
 pub bounds : (a x b : ℕ) → between a x b ≡ true → (a ≤ x) × (x ≤ b)
-bounds a x b e = (leb-true a x (first (leb a x) (leb x b) e), leb-true x b (second (leb a x) (leb x b) e))
+bounds a x b e = (leb-true a x (left-of _ _ e), leb-true x b (right-of (leb a x) _ e))
 
 pub bounded : (a x b : ℕ) → a ≤ x → x ≤ b → between a x b ≡ true
 bounded a x b p q = both (le-leb a x p) (le-leb x b q)
@@ -54,32 +47,26 @@ pub picked : {A : Type 0} (P : A → Type 0) (b : Bool) (x y : A) → (b ≡ tru
 picked P true x y yes′ no′ = yes′ refl
 picked P false x y yes′ no′ = no′ refl
 
--- a test of each element of a list: as a fact for each, of two lists joined, and at one element
-abbrev pub Each : {A : Type 0} → (A → Bool) → List A → Type 0
-Each f [] = Unit {0}
-Each f (x ∷ xs) = (f x ≡ true) × Each f xs
-
+-- a test of each element of a list: of two lists joined, and at one element
 pub all-append : {A : Type 0} (f : A → Bool) (xs ys : List A) → all f xs ≡ true → all f ys ≡ true → all f (xs ++ ys) ≡ true
 all-append f [] ys p q = q
-all-append f (x ∷ xs) ys p q = both (first (f x) (all f xs) p) (all-append f xs ys (second (f x) (all f xs) p) q)
+all-append f (x ∷ xs) ys p q = both (left-of (f x) _ p) (all-append f xs ys (right-of (f x) _ p) q)
 
 pub all-member : {A : Type 0} (f : A → Bool) (xs : List A) (x : A) → all f xs ≡ true → List·Memᴰ x xs → f x ≡ true
 all-member f [] x e m = absurd (List·Memᴰ·not-nil m)
 all-member f (y ∷ ys) x e m =
-    ⊎-elim (λ p. ap f p ∙ first (f y) (all f ys) e) (λ n. all-member f ys x (second (f y) (all f ys) e) n) (List·Memᴰ·cases-cons m)
+    ⊎-elim (λ p. ap f p ∙ left-of _ _ e) (λ n. all-member f ys x (right-of (f y) _ e) n) (List·Memᴰ·cases-cons m)
 
 pub member-at : {A : Type 0} (xs : List A) (d : A) (i : ℕ) → i < length xs → List·Memᴰ (getD xs i d) xs
-member-at [] d i h = absurd (not-suc-le-zero h)
-member-at (x ∷ xs) d zero h = List·Memᴰ·head refl
-member-at (x ∷ xs) d (suc i) h = List·Memᴰ·tail (member-at xs d i (le-of-suc-le-suc h))
+member-at xs d i h =
+    subst (List·Memᴰ (getD xs i d)) (sym (split-at xs i d h)) (Memᴰ·append-right (take i xs) (List·Memᴰ·head refl))
 
 -- the same numbers are the same list
 pub same-eq : (xs ys : List ℕ) → same xs ys ≡ true → xs ≡ ys
 same-eq [] [] e = refl
 same-eq [] (y ∷ ys) e = absurd (false≢true e)
 same-eq (x ∷ xs) [] e = absurd (false≢true e)
-same-eq (x ∷ xs) (y ∷ ys) e =
-    ap₂ _∷_ (eqb-true x y (first (eqb x y) (same xs ys) e)) (same-eq xs ys (second (eqb x y) (same xs ys) e))
+same-eq (x ∷ xs) (y ∷ ys) e = ap₂ _∷_ (eqb-true x y (left-of _ _ e)) (same-eq xs ys (right-of (eqb x y) _ e))
 
 pub same-refl : (xs : List ℕ) → same xs xs ≡ true
 same-refl [] = refl

@@ -6,7 +6,7 @@ use mathlib.Core.List.{List, List·Memᴰ·append-cases, List·Memᴰ·eq-of-sin
 use mathlib.Core.Logic.{⊎-elim}
 use mathlib.Core.Path.{_≡_, _∙_, refl, sym, ap, subst}
 use Prim.Native.Nat.{ℕ, _+_}
-use lib.ListN.{getD, length}
+use lib.ListN.{getD}
 use Rattle.record.specs.Layout.{AuthRequest, AuthResponse, Initiate, Invoice, Kind, Payment, aPayment, anInitiate, anInvoice, body, destination, invoiceSigned, maker, paymentSigned, requestBuyerSigned, requestSigned, source}
 use Rattle.record.specs.Parts.{Message, buyerAt, hashedAt, markAt, sellerAt, slipAt, slipWidth}
 use Rattle.record.specs.Signed.{buyerSignedAt, requestSignedAt}
@@ -16,19 +16,18 @@ use Rattle.record.specs.declared.parts.Mark.{Mark}
 use Rattle.record.specs.declared.parts.Seller.{Seller}
 use Rattle.record.specs.declared.signed.BuyerSigned.{BuyerSigned}
 use Rattle.record.specs.declared.signed.RequestSigned.{RequestSigned}
-use Rattle.rules.proofs.Claims.{facts, the-buyer, the-mark, the-seller, the-slip}
-use Rattle.rules.proofs.Deeds.{Taken, by-deed, copied-from, named, two-named}
+use Rattle.rules.proofs.Claims.{as-part, facts}
+use Rattle.rules.proofs.Deeds.{Taken, by-deed, item-of, named, two-named}
 use Rattle.rules.proofs.Laid.{one-kind, relaid}
 use Rattle.rules.proofs.Reached.{kept-reached}
 use Rattle.rules.proofs.Tests.{other, picked}
 use Rattle.rules.specs.Agreed.{_∈_}
 use Rattle.rules.specs.Codes.{Argument, Deed, Item, asks, forges, invoices, pays, replies, starts}
-use Rattle.rules.specs.Forged.{buyerSignature, copied, given, gives, mark, noBuyer, noSeller, requestSignature, slip}
+use Rattle.rules.specs.Forged.{buyerSignature, given, gives, mark, noBuyer, noSeller, requestSignature, slip}
 use Rattle.rules.specs.Honest.{askClaims, invoiceClaims, orderMark, payClaims, paymentBy, requestBy}
 use Rattle.rules.specs.Items.{buyerSignedIn, hasSlip, isKind, requestSignedIn}
 use Rattle.rules.specs.Reached.{Reached}
 use Rattle.rules.specs.Report.{itsInitiate, itsInvoice}
-use Rattle.rules.specs.Run.{stepWidth}
 use Rattle.rules.specs.Step.{Step, accepted, added, judge, theBuyer, theInitiate, theInvoice, thePayment, theSeller}
 
 module _ (R : Record) where
@@ -144,7 +143,7 @@ module _ (answers room : ℕ) (R : Record) (ks : List Argument) (xs : List ℕ) 
         let I = theInitiate R ks xs in
         let i = the-one t Initiate (t .complete-row) in
         let f = facts (invoiceClaims S I) (t .passed .claimed) in
-        let to-him : sellerAt I destination ≡ S = the-seller (f .0) in
+        let to-him : sellerAt I destination ≡ S = as-part sellerAt (f .0) in
         let sent-so : anInitiate (buyerAt I maker) (buyerAt I source) S (hashedAt I body) ≡ I =
         ap (λ (to : Seller). anInitiate (buyerAt I maker) (buyerAt I source) to (hashedAt I body)) (sym to-him) ∙ sym (i .1)
         in
@@ -166,13 +165,13 @@ module _ (answers room : ℕ) (R : Record) (ks : List Argument) (xs : List ℕ) 
         let i = the-one t Initiate (two-named ks Initiate Invoice (t .complete-row) .0) in
         let j = the-one t Invoice (two-named ks Initiate Invoice (t .complete-row) .1) in
         let f = facts (payClaims B I J) (t .passed .claimed) in
-        let made : B ≡ buyerAt I maker = sym (the-buyer (f .0)) in
-        let sent : B ≡ buyerAt I source = sym (the-buyer (f .1 .0)) in
-        let from-seller : S ≡ sellerAt J source = sym (the-seller (f .1 .1 .1 .0)) in
-        let to-him : B ≡ buyerAt J destination = sym (the-buyer (f .1 .1 .1 .1 .0)) in
-        let over : x ≡ markAt J body = sym (the-mark (f .1 .1 .1 .1 .1 .0)) in
-        let signer : S ≡ sellerAt J invoiceSigned = sym (the-seller (f .1 .1 .1 .1 .1 .1 .0)) in
-        let signed : x ≡ markAt J (invoiceSigned + 1) = sym (the-mark (f .1 .1 .1 .1 .1 .1 .1 .0)) in
+        let made : B ≡ buyerAt I maker = sym (as-part buyerAt (f .0)) in
+        let sent : B ≡ buyerAt I source = sym (as-part buyerAt (f .1 .0)) in
+        let from-seller : S ≡ sellerAt J source = sym (as-part sellerAt (f .1 .1 .1 .0)) in
+        let to-him : B ≡ buyerAt J destination = sym (as-part buyerAt (f .1 .1 .1 .1 .0)) in
+        let over : x ≡ markAt J body = sym (as-part markAt (f .1 .1 .1 .1 .1 .0)) in
+        let signer : S ≡ sellerAt J invoiceSigned = sym (as-part sellerAt (f .1 .1 .1 .1 .1 .1 .0)) in
+        let signed : x ≡ markAt J (invoiceSigned + 1) = sym (as-part markAt (f .1 .1 .1 .1 .1 .1 .1 .0)) in
         let own-so : itsInitiate x ≡ relaid Initiate I = λ k. anInitiate (made k) (sent k) S (hashedAt I body) in
         let sent-so : anInvoice (sellerAt J maker) S B x (record { signer = S; mark = x }) ≡ relaid Invoice J =
         λ k. anInvoice (sellerAt J maker) (from-seller k) (to-him k) (over k) (record { signer = signer k; mark = signed k })
@@ -201,14 +200,14 @@ module _ (answers room : ℕ) (R : Record) (ks : List Argument) (xs : List ℕ) 
         let j = the-one t Invoice (two-named ks Invoice Payment (t .complete-row) .0) in
         let p = the-one t Payment (two-named ks Invoice Payment (t .complete-row) .1) in
         let f = facts (askClaims S J P) (t .passed .claimed) in
-        let made : sellerAt J maker ≡ S = the-seller (f .0) in
-        let seller : x .seller ≡ S = the-seller (f .1 .1 .0) in
-        let buyer : x .buyer ≡ buyerAt J destination = the-buyer (f .1 .1 .1 .0) in
-        let from-buyer : x .buyer ≡ buyerAt P source = buyer ∙ sym (the-buyer (f .1 .1 .1 .1 .0)) in
-        let to-him : x .seller ≡ sellerAt P destination = seller ∙ sym (the-seller (f .1 .1 .1 .1 .1 .0)) in
-        let signer : x .buyer ≡ buyerAt P paymentSigned = buyer ∙ sym (the-buyer (f .1 .1 .1 .1 .1 .1 .0)) in
-        let slip : y ≡ slipAt P (paymentSigned + 1) = sym (the-slip (f .1 .1 .1 .1 .1 .1 .1 .0)) in
-        let mark : x ≡ markAt P (paymentSigned + 1 + slipWidth) = sym (the-mark (f .1 .1 .1 .1 .1 .1 .1 .1 .0)) in
+        let made : sellerAt J maker ≡ S = as-part sellerAt (f .0) in
+        let seller : x .seller ≡ S = as-part sellerAt (f .1 .1 .0) in
+        let buyer : x .buyer ≡ buyerAt J destination = as-part buyerAt (f .1 .1 .1 .0) in
+        let from-buyer : x .buyer ≡ buyerAt P source = buyer ∙ sym (as-part buyerAt (f .1 .1 .1 .1 .0)) in
+        let to-him : x .seller ≡ sellerAt P destination = seller ∙ sym (as-part sellerAt (f .1 .1 .1 .1 .1 .0)) in
+        let signer : x .buyer ≡ buyerAt P paymentSigned = buyer ∙ sym (as-part buyerAt (f .1 .1 .1 .1 .1 .1 .0)) in
+        let slip : y ≡ slipAt P (paymentSigned + 1) = sym (as-part slipAt (f .1 .1 .1 .1 .1 .1 .1 .0)) in
+        let mark : x ≡ markAt P (paymentSigned + 1 + slipWidth) = sym (as-part markAt (f .1 .1 .1 .1 .1 .1 .1 .1 .0)) in
         let signed-so : _≡_ {A = BuyerSigned} (record { signer = x .buyer; slip = y; mark = x }) (buyerSignedAt P paymentSigned) =
         λ k. record { signer = signer k; slip = slip k; mark = mark k }
         in
@@ -241,20 +240,13 @@ module _ (answers room : ℕ) (R : Record) (ks : List Argument) (xs : List ℕ) 
 
     forged-buyer : {d : Deed} → Taken room R d ks xs → BuyerVouched T (buyerSignature R ks xs)
     forged-buyer t =
-        picked (BuyerVouched T) (gives (Argument.at Item.p) ks) (buyerSignedIn (copied R ks xs Item.p))
-        (record { signer = noBuyer; slip = slip R ks xs; mark = mark R ks xs })
-        (λ g. let c = copied-from t Item.p g in copied-buyer (copied R ks xs Item.p) (c .0) (c .1))
+        item-of t (BuyerVouched T) Item.p buyerSignedIn (record { signer = noBuyer; slip = slip R ks xs; mark = mark R ks xs }) copied-buyer
         (λ g h. absurd (h refl))
 
     forged-seller : {d : Deed} → Taken room R d ks xs → SellerVouched T (requestSignature R ks xs)
     forged-seller t =
-        picked (SellerVouched T) (gives (Argument.at Item.q) ks) (requestSignedIn (copied R ks xs Item.q))
-        (record { signer = noSeller; mark = mark R ks xs; slip = slip R ks xs })
-        (λ g h.
-        let c = copied-from t Item.q g in
-        let w = copied R ks xs Item.q in
-        seller-grows grows (sound-as R AuthRequest w (sound w (c .0)) (c .1) .1 .1 h))
-        (λ g h. absurd (h refl))
+        item-of t (SellerVouched T) Item.q requestSignedIn (record { signer = noSeller; mark = mark R ks xs; slip = slip R ks xs })
+        (λ w m y h. seller-grows grows (sound-as R AuthRequest w (sound w m) y .1 .1 h)) (λ g h. absurd (h refl))
 
     added-sound : (d : Deed) → (added R ks xs answers d ∈ T) → Taken room R d ks xs → Sound T (added R ks xs answers d)
     added-sound starts new t = record { kind = Initiate; laid = refl; sent = λ e. e; vouched = tt }
@@ -269,15 +261,15 @@ module _ (answers room : ℕ) (R : Record) (ks : List Argument) (xs : List ℕ) 
         record { kind = AuthRequest; laid = refl; sent = λ e. refl; vouched = (forged-buyer t, forged-seller t) }
     added-sound (forges AuthResponse) new t = record { kind = AuthResponse; laid = refl; sent = λ e. refl; vouched = tt }
 
-step-sound : (answers room : ℕ) (R : Record) (s : Step) (x : Message) → length s ≡ stepWidth → AllSound R
-    → judge answers room R s ≡ accepted x → AllSound (R ++ (x ∷ []))
-step-sound answers room R s x l sound e w m =
+step-sound : (answers room : ℕ) (R : Record) (s : Step) (x : Message) → AllSound R → judge answers room R s ≡ accepted x
+    → AllSound (R ++ (x ∷ []))
+step-sound answers room R s x sound e w m =
     ⊎-elim (λ old. sound-grows (λ y. Memᴰ·append-left (x ∷ [])) w (sound w old))
     (λ new. subst (Sound (R ++ (x ∷ []))) (sym (List·Memᴰ·eq-of-singleton new)) new-sound) (List·Memᴰ·append-cases R m)
   where
     new-sound : Sound (R ++ (x ∷ [])) x
     new-sound =
-        by-deed answers room R s x (λ (y : Message). Sound (R ++ (y ∷ [])) y) l e
+        by-deed answers room R s x (λ (y : Message). Sound (R ++ (y ∷ [])) y) e
         (λ d ks xs.
         added-sound answers room R ks xs sound (R ++ (added R ks xs answers d ∷ []))
         (λ y. Memᴰ·append-left (added R ks xs answers d ∷ [])) d (Memᴰ·append-right R (List·Memᴰ·head refl)))

@@ -1,19 +1,34 @@
--- What buyer and seller of a payment have agreed on when the house replies: the four messages of the payment stand in the record.
+-- Agreement in the words of the theorems: a house reply at a place of a record, the four messages that stand earlier than it, and what the
+-- report says of it. A payment is known by its mark, and its four messages are those of the report.
 use Prim.Native.Nat.{ℕ}
+use mathlib.Core.Bool.{true}
 use mathlib.Core.List.{List·Memᴰ}
+use mathlib.Core.Logic.{_↔_}
 use mathlib.Core.Path.{_≡_}
+use lib.ListN.{length}
+use Rattle.record.specs.Lawful.{between}
 use Rattle.record.specs.Parts.{Message}
-use Rattle.record.specs.Table.{Record}
+use Rattle.record.specs.Table.{Record, messageAt}
 use Rattle.record.specs.declared.parts.Mark.{Mark}
-use Rattle.rules.specs.Report.{itsInitiate, itsInvoice, itsPayment, itsRequest}
+use Rattle.record.specs.declared.parts.Place.{Place}
+use Rattle.rules.specs.Report.{houseReply, itsInitiate, itsInvoice, itsPayment, itsRequest}
 
 -- a message stands in a record
 infix 40 _∈_
 abbrev pub _∈_ : Message → Record → Type 0
 x ∈ R = List·Memᴰ x R
 
--- for the payment with the mark x: its account is the buyer's, and the Initiate and the Payment made by that buyer and the Invoice and
--- the Auth-Request made by that seller, each with this mark, its slip under key 1 and their signatures, stand in R
+-- at place p of R stands a reply made by the house gateway
+pub record HouseReplyAt (R : Record) (p : Place) : Type 0 where
+  pub inside : between 1 (p .0) (length R) ≡ true
+  pub reply : houseReply (messageAt R p) ≡ true
+
+-- buyer and seller of the payment x are both the outsider
+abbrev pub BothOutside : Mark → Type 0
+BothOutside x = (x .buyer .0 ≡ 0) × (x .seller .0 ≡ 0)
+
+-- of the payment x these stand in R: the Initiate and the Payment made by its buyer, the Invoice and the Auth-Request made by its seller,
+-- each with this mark (or its hashed account), its slip under key 1 and the signatures of both over these; and the account is the buyer's
 pub record Agreed (x : Mark) (R : Record) : Type 0 where
   pub account : x .hashed .account .0 ≡ x .buyer .0
   pub initiate : itsInitiate x ∈ R
@@ -21,11 +36,7 @@ pub record Agreed (x : Mark) (R : Record) : Type 0 where
   pub payment : itsPayment x ∈ R
   pub request : itsRequest x ∈ R
 
--- buyer and seller of it are both the outsider
-abbrev pub BothOutside : Mark → Type 0
-BothOutside x = (x .buyer .0 ≡ 0) × (x .seller .0 ≡ 0)
-
--- what the report on a reply with this mark has to say
+-- the number that the report gives for the payment x: 20 exactly when buyer and seller are not both the outsider, 21 exactly when they are
 pub record Reported (x : Mark) (number : ℕ) : Type 0 where
-  pub agreed : ¬ BothOutside x → number ≡ 20
-  pub outsider : BothOutside x → number ≡ 21
+  pub agreed : (number ≡ 20) ↔ ¬ BothOutside x
+  pub outsider : (number ≡ 21) ↔ BothOutside x

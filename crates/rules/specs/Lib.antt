@@ -11,3 +11,4 @@ pub mod Report
 pub mod Run
 pub mod Session
 pub mod Step
+pub mod Theorems

@@ -1,21 +1,22 @@
--- What the promise of a run gives about the table and the verdict bytes that it leaves.
-use Prim.Native.Nat.{ℕ, _-_, _<_}
+-- What the promise of a run gives about the table and the verdict bytes that it leaves: so the theorems are about the program's record, and
+-- nobody has to trust that the theorems' machine is the program's.
+use Prim.Native.Nat.{ℕ}
 use mathlib.Core.Bool.{true}
 use mathlib.Core.List.{List, [], _∷_, _++_}
 use mathlib.Core.Path.{_≡_}
-use lib.ListN.{getD, length, take}
-use Rattle.record.specs.Lawful.{between, buyers, sellers, within}
-use Rattle.record.specs.Table.{Record, lawfulRecord, messageAt, messages, roomOf}
+use lib.ListN.{getD, length}
+use Rattle.record.specs.Lawful.{buyers, sellers, within}
+use Rattle.record.specs.Table.{Record, lawfulRecord, messages, roomOf}
 use Rattle.record.specs.declared.parts.Buyer.{Buyer}
 use Rattle.record.specs.declared.parts.Place.{Place}
 use Rattle.record.specs.declared.parts.Seller.{Seller}
-use Rattle.rules.specs.Agreed.{Agreed, BothOutside, Reported}
-use Rattle.rules.specs.Report.{houseReply, replyMark, report}
+use Rattle.rules.specs.Agreed.{Agreed, BothOutside, HouseReplyAt, Reported}
+use Rattle.rules.specs.Report.{earlier, paymentAt, report}
 use Rattle.rules.specs.Run.{Ran, played, stepsOf}
-use Rattle.rules.specs.Session.{R5, Session, Setting, sessionMark, sessionSteps}
-use Rattle.rules.specs.Step.{Step, judge, judgeTable, newPlace, numberOf}
+use Rattle.rules.specs.Session.{Completed, RoomAtEach, Setting, place5, sessionMark, sessionSteps}
+use Rattle.rules.specs.Step.{Step, judge, judgeTable, numberOf}
 
--- of a run with these answers over the table t and the steps xs, and of what it returned and left
+-- of a run with these answers over the table t and the numbers xs of its steps, and of what it returned and left
 module _ (answers : ℕ) (t xs : List ℕ) (ran : Ran) where
   -- the messages left
   abbrev pub left : Record
@@ -33,7 +34,7 @@ module _ (answers : ℕ) (t xs : List ℕ) (ran : Ran) where
         room = roomOf t;
         buyer = B;
         seller = S;
-        R1 = leftBy l0;
+        start = leftBy l0;
         after1 = l1;
         after2 = l2;
         after3 = l3;
@@ -48,16 +49,14 @@ module _ (answers : ℕ) (t xs : List ℕ) (ran : Ran) where
     -- every message is lawful, so a step on the table is judged as the run would judge it
     pub lawful-left : lawfulRecord (ran .n) (ran .table) ≡ true
     pub judged : (s : Step) → judgeTable answers (ran .n) (ran .table) s ≡ judge answers (roomOf t) left s
-    -- agreement at each house reply whose buyer and seller are not both 0
-    pub agreed : (p : Place) → between 1 (p .0) (ran .n) ≡ true → houseReply (messageAt left p) ≡ true
-        → ¬ BothOutside (replyMark (messageAt left p)) → Agreed (replyMark (messageAt left p)) (take (p .0 - 1) left)
-    -- the report there is 20, or 21 for the outsider with himself; 22 never occurs
-    pub reported : (p : Place) → between 1 (p .0) (ran .n) ≡ true → houseReply (messageAt left p) ≡ true
-        → Reported (replyMark (messageAt left p)) (report (ran .n) (ran .table) p)
-    pub never-22 : (p : Place) → report (ran .n) (ran .table) p ≡ 22 → ⊥
-    -- where the steps hold a session of any buyer and seller, with any steps before, between and after its own, and there was room: its
-    -- five steps were accepted, and its reply is reported
+    -- agreement at each house reply whose buyer and seller are not both the outsider
+    pub agreed : (p : Place) → HouseReplyAt left p → ¬ BothOutside (paymentAt left p) → Agreed (paymentAt left p) (earlier left p)
+    -- the report there is 20, or 21 for the outsider with himself; and at no place is it 22
+    pub reported : (p : Place) → HouseReplyAt left p → Reported (paymentAt left p) (report (ran .n) (ran .table) p)
+    pub never-22 : (p : Place) → ¬ (report (ran .n) (ran .table) p ≡ 22)
+    -- where the steps hold a session of any buyer and seller, with any steps before, between and after its own, and there was room at each
+    -- of the five: they were accepted, and the reply is reported
     pub sessions : (l0 l1 l2 l3 l4 l5 : List Step) (B : Buyer) (S : Seller) → within buyers (B .0) ≡ true → within sellers (S .0) ≡ true
         → let c = sessionAfter l0 B S l1 l2 l3 l4 in
-        stepsOf xs ≡ l0 ++ sessionSteps c l5 → length (R5 c) < roomOf t
-        → Session c × Reported (sessionMark c) (report (ran .n) (ran .table) (newPlace (R5 c)))
+        stepsOf xs ≡ l0 ++ sessionSteps c l5 → RoomAtEach c
+        → Completed c × Reported (sessionMark c) (report (ran .n) (ran .table) (place5 c))

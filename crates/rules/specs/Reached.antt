@@ -1,26 +1,18 @@
--- What the theorems speak of: records to which steps lead from the empty one.
+-- Reached records: what the theorems speak of. Any list of steps will do, with forgeries and refused steps in it.
 use Prim.Native.Nat.{ℕ}
-use mathlib.Core.Bool.{Bool, true}
+use mathlib.Core.Bool.{true}
 use mathlib.Core.List.{List, []}
 use mathlib.Core.Path.{_≡_}
-use lib.Dec.{eqb}
-use lib.ListN.{length}
 use Rattle.record.specs.Table.{Record, messages, roomOf, whole}
-use Rattle.record.specs.Tests.{all}
-use Rattle.rules.specs.Run.{played, stepWidth}
+use Rattle.rules.specs.Run.{played}
 use Rattle.rules.specs.Step.{Step}
 
--- a step is seven numbers
-abbrev pub seven : Step → Bool
-seven s = eqb (length s) stepWidth
-
--- a record that a list of steps leaves, with these account answers and room; refused steps may be among them
+-- some list of steps, played from an empty record with these account answers and this room, leaves R
 pub record Reached (answers room : ℕ) (R : Record) : Type 0 where
   pub steps : List Step
-  pub sevens : all seven steps ≡ true
   pub left : R ≡ played answers room [] steps
 
--- a table whose first n places hold a reached record
+-- the first n messages of a table are a reached record, for the room that the table has
 pub record HoldsReached (answers n : ℕ) (t : List ℕ) : Type 0 where
   pub measured : whole t ≡ true
   pub reached : Reached answers (roomOf t) (messages n t)

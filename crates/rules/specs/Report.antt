@@ -3,7 +3,7 @@ use Prim.Native.Nat.{ℕ, _-_}
 use mathlib.Core.Bool.{Bool, false, _&&_, _||_, cond}
 use mathlib.Core.List.{List, [], _∷_}
 use lib.Dec.{eqb}
-use lib.ListN.{getD, take}
+use lib.ListN.{take}
 use Rattle.record.specs.Lawful.{between}
 use Rattle.record.specs.Layout.{AuthResponse, maker}
 use Rattle.record.specs.Parts.{Message, gatewayAt}
@@ -12,7 +12,7 @@ use Rattle.record.specs.Tests.{every, same}
 use Rattle.record.specs.declared.parts.Mark.{Mark}
 use Rattle.record.specs.declared.parts.Place.{Place}
 use Rattle.record.specs.declared.parts.Slip.{Slip}
-use Rattle.rules.specs.Gates.{_unless_, through}
+use Rattle.rules.specs.Gates.{Gate, _unless_, through}
 use Rattle.rules.specs.Honest.{house, initiateBy, invoiceBy, paymentBy, requestBy, slipUnder}
 use Rattle.rules.specs.Items.{isKind, replySignedIn}
 
@@ -64,10 +64,21 @@ module _ (x : Mark) where
 
 -- of a reply, by what stands earlier than it
 unfoldable pub reportOn : Record → Mark → ℕ
-reportOn earlier x = cond (outside x) 21 (cond (agreed x earlier) 20 22)
+reportOn before x = cond (outside x) 21 (cond (agreed x before) 20 22)
+
+-- at a place of a record: the payment that the reply there is for, known by its mark; what stands earlier; and the report on the reply
+abbrev pub paymentAt : Record → Place → Mark
+paymentAt R p = replyMark (messageAt R p)
+
+abbrev pub earlier : Record → Place → Record
+earlier R p = take (p .0 - 1) R
+
+abbrev pub reportAt : Record → Place → ℕ
+reportAt R p = reportOn (earlier R p) (paymentAt R p)
+
+-- on a place of a table: refusals 1, 4 and 5 in their order, then the report on the reply there
+abbrev pub reportGates : ℕ → List ℕ → Place → List Gate
+reportGates n t p = 1 unless lawfulRecord n t ∷ 4 unless between 1 (p .0) n ∷ 5 unless houseReply (messageAt (messages n t) p) ∷ []
 
 unfoldable pub report : ℕ → List ℕ → Place → ℕ
-report n t p =
-    let reply = messageAt (messages n t) p in
-    through (1 unless lawfulRecord n t ∷ 4 unless between 1 (p .0) n ∷ 5 unless houseReply reply ∷ []) (λ k. k)
-    (reportOn (take (p .0 - 1) (messages n t)) (replyMark reply))
+report n t p = through (reportGates n t p) (λ k. k) (reportAt (messages n t) p)

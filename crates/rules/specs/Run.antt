@@ -4,9 +4,8 @@ use mathlib.Core.Bool.{Bool, _&&_}
 use mathlib.Core.List.{List, [], _∷_, _++_}
 use lib.Dec.{eqb, leb}
 use lib.ListN.{drop, length}
-use Rattle.record.specs.Layout.{messageWidth}
 use Rattle.record.specs.Table.{Record, cut, roomOf, whole}
-use Rattle.rules.specs.Gates.{_unless_, through}
+use Rattle.rules.specs.Gates.{Gate, _unless_, through}
 use Rattle.rules.specs.Step.{Step, judge, numberOf, recordAfter}
 
 -- the record after a list of steps, and the number of each
@@ -52,14 +51,23 @@ pub record Ran : Type 0 where
   pub table : List ℕ
   pub verdictBytes : List ℕ
 
-unfoldable pub run : ℕ → List ℕ → List ℕ → List ℕ → Ran
-run answers t xs bytes =
-    let R = played answers (roomOf t) [] (stepsOf xs) in
-    through (1 unless whole t ∷ 8 unless wholeSteps xs ∷ 9 unless leb (stepCount xs) (length bytes) ∷ [])
-    (λ k. record { number = k; n = 0; table = t; verdictBytes = bytes })
-    (record {
-      number = 0;
-      n = length R;
-      table = over (flat R) t;
-      verdictBytes = over (verdicts answers (roomOf t) [] (stepsOf xs)) bytes;
-    })
+-- refusals 1 (length only), 8 and 9 in their order; a refused run has changed nothing; else every step has been played
+module _ (answers : ℕ) (t xs bytes : List ℕ) where
+  abbrev pub runGates : List Gate
+  runGates = 1 unless whole t ∷ 8 unless wholeSteps xs ∷ 9 unless leb (stepCount xs) (length bytes) ∷ []
+
+  abbrev pub runRefused : ℕ → Ran
+  runRefused k = record { number = k; n = 0; table = t; verdictBytes = bytes }
+
+  abbrev pub runPlayed : Ran
+  runPlayed =
+      let R = played answers (roomOf t) [] (stepsOf xs) in
+      record {
+        number = 0;
+        n = length R;
+        table = over (flat R) t;
+        verdictBytes = over (verdicts answers (roomOf t) [] (stepsOf xs)) bytes;
+      }
+
+  unfoldable pub run : Ran
+  run = through runGates runRefused runPlayed

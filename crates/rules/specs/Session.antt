@@ -1,18 +1,19 @@
 -- An honest session: steps 1 to 5 for one buyer and one seller, each naming the messages that the session's earlier steps added, with any
--- lists of other steps between them.
-use Prim.Native.Nat.{ℕ}
+-- lists of other steps between them; and what is proved of it.
+use Prim.Native.Nat.{ℕ, _<_}
 use mathlib.Core.List.{List, [], _∷_, _++_}
 use mathlib.Core.Path.{_≡_}
-use lib.ListN.{length, take}
+use lib.ListN.{length}
 use Rattle.record.specs.Layout.{filled}
 use Rattle.record.specs.Parts.{Message, accountOf}
 use Rattle.record.specs.Table.{Record, messageAt}
 use Rattle.record.specs.declared.parts.Buyer.{Buyer}
 use Rattle.record.specs.declared.parts.Mark.{Mark}
+use Rattle.record.specs.declared.parts.Place.{Place}
 use Rattle.record.specs.declared.parts.Seller.{Seller}
 use Rattle.rules.specs.Agreed.{Reported}
 use Rattle.rules.specs.Honest.{codeFor, house, replyBy}
-use Rattle.rules.specs.Report.{itsInitiate, itsInvoice, itsPayment, itsRequest, replyMark, reportOn}
+use Rattle.rules.specs.Report.{itsInitiate, itsInvoice, itsPayment, itsRequest, reportAt}
 use Rattle.rules.specs.Run.{played, stepWidth}
 use Rattle.rules.specs.Step.{Outcome, Step, accepted, judge, newPlace}
 
@@ -26,53 +27,81 @@ pub record Setting : Type 0 where
   pub room : ℕ
   pub buyer : Buyer
   pub seller : Seller
-  pub R1 : Record
+  pub start : Record
   pub after1 : List Step
   pub after2 : List Step
   pub after3 : List Step
   pub after4 : List Step
 
--- step k is taken on the record Rk and adds the message at the new place of Rk
 module _ (c : Setting) where
   abbrev on : Record → List Step → Record
   on = played (c .answers) (c .room)
 
+  -- Step 1 meets the record `start`, step k the record Rk; the message that it adds has the session's place k, by which later steps name it.
+  -- 1: buyer, seller
+  abbrev pub place1 : Place
+  place1 = newPlace (c .start)
+
   abbrev pub step1 : Step
   step1 = stepOf 1 (c .buyer .0 ∷ c .seller .0 ∷ [])
 
+  -- 2: seller, the Initiate of step 1
   abbrev pub R2 : Record
-  R2 = on (c .R1) (step1 ∷ c .after1)
+  R2 = on (c .start) (step1 ∷ c .after1)
+
+  abbrev pub place2 : Place
+  place2 = newPlace R2
 
   abbrev pub step2 : Step
-  step2 = stepOf 2 (c .seller .0 ∷ newPlace (c .R1) .0 ∷ [])
+  step2 = stepOf 2 (c .seller .0 ∷ place1 .0 ∷ [])
 
+  -- 3: buyer, the Initiate of step 1, the Invoice of step 2
   abbrev pub R3 : Record
   R3 = on R2 (step2 ∷ c .after2)
 
-  abbrev pub step3 : Step
-  step3 = stepOf 3 (c .buyer .0 ∷ newPlace (c .R1) .0 ∷ newPlace R2 .0 ∷ [])
+  abbrev pub place3 : Place
+  place3 = newPlace R3
 
+  abbrev pub step3 : Step
+  step3 = stepOf 3 (c .buyer .0 ∷ place1 .0 ∷ place2 .0 ∷ [])
+
+  -- 4: seller, the Invoice of step 2, the Payment of step 3
   abbrev pub R4 : Record
   R4 = on R3 (step3 ∷ c .after3)
 
-  abbrev pub step4 : Step
-  step4 = stepOf 4 (c .seller .0 ∷ newPlace R2 .0 ∷ newPlace R3 .0 ∷ [])
+  abbrev pub place4 : Place
+  place4 = newPlace R4
 
+  abbrev pub step4 : Step
+  step4 = stepOf 4 (c .seller .0 ∷ place2 .0 ∷ place3 .0 ∷ [])
+
+  -- 5: the Auth-Request of step 4
   abbrev pub R5 : Record
   R5 = on R4 (step4 ∷ c .after4)
 
+  abbrev pub place5 : Place
+  place5 = newPlace R5
+
   abbrev pub step5 : Step
-  step5 = stepOf 5 (newPlace R4 .0 ∷ [])
+  step5 = stepOf 5 (place4 .0 ∷ [])
 
   -- the record when other steps are played after the fifth
   abbrev pub R6 : List Step → Record
   R6 after5 = on R5 (step5 ∷ after5)
 
-  -- all of it as one list
+  -- the session and the steps between and after its own, as one list
   abbrev pub sessionSteps : List Step → List Step
   sessionSteps after5 =
       step1
       ∷ (c .after1 ++ (step2 ∷ (c .after2 ++ (step3 ∷ (c .after3 ++ (step4 ∷ (c .after4 ++ (step5 ∷ after5))))))))
+
+  -- there is room at each of the five
+  pub record RoomAtEach : Type 0 where
+    pub at1 : length (c .start) < c .room
+    pub at2 : length R2 < c .room
+    pub at3 : length R3 < c .room
+    pub at4 : length R4 < c .room
+    pub at5 : length R5 < c .room
 
   -- the mark of the payment, and the reply to it
   abbrev pub sessionMark : Mark
@@ -80,7 +109,7 @@ module _ (c : Setting) where
       record {
         seller = c .seller;
         buyer = c .buyer;
-        hashed = record { drawn = record { drawer = c .buyer; draw = newPlace (c .R1) .0 }; account = accountOf (c .buyer) };
+        hashed = record { drawn = record { drawer = c .buyer; draw = place1 .0 }; account = accountOf (c .buyer) };
       }
 
   abbrev pub sessionReply : Message
@@ -89,12 +118,13 @@ module _ (c : Setting) where
   abbrev judged : Record → Step → Outcome
   judged = judge (c .answers) (c .room)
 
-  -- each step is accepted and adds the session's message, and the reply is reported, whatever is played afterwards
-  pub record Session : Type 0 where
-    pub starts : judged (c .R1) step1 ≡ accepted (itsInitiate sessionMark)
+  -- each of the five is accepted and adds the session's message; and whatever is played afterwards, the reply stands where the fifth
+  -- added it, and the report on it is 20, or 21 for the outsider with himself
+  pub record Completed : Type 0 where
+    pub starts : judged (c .start) step1 ≡ accepted (itsInitiate sessionMark)
     pub invoices : judged R2 step2 ≡ accepted (itsInvoice sessionMark)
     pub pays : judged R3 step3 ≡ accepted (itsPayment sessionMark)
     pub asks : judged R4 step4 ≡ accepted (itsRequest sessionMark)
     pub replies : judged R5 step5 ≡ accepted sessionReply
-    pub reply : (after5 : List Step) → messageAt (R6 after5) (newPlace R5) ≡ sessionReply
-    pub reported : (after5 : List Step) → Reported sessionMark (reportOn (take (length R5) (R6 after5)) (replyMark sessionReply))
+    pub reply : (after5 : List Step) → messageAt (R6 after5) place5 ≡ sessionReply
+    pub reported : (after5 : List Step) → Reported sessionMark (reportAt (R6 after5) place5)

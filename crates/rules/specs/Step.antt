@@ -1,13 +1,13 @@
 -- One step against a record: its verdict, refusals 2 to 7 in order or the message added; and against a flat table with a count, where
 -- refusal 1 comes first.
-use Prim.Native.Nat.{ℕ, _+_, _*_}
-use mathlib.Core.Bool.{Bool, true, cond}
+use Prim.Native.Nat.{ℕ, _+_}
+use mathlib.Core.Bool.{Bool, cond}
 use mathlib.Core.List.{List, [], _∷_, _++_}
 use lib.Dec.{ltb}
-use lib.ListN.{drop, getD, length, take}
-use Rattle.record.specs.Layout.{AuthRequest, Initiate, Invoice, Payment, messageWidth}
+use lib.ListN.{drop, getD, length}
+use Rattle.record.specs.Layout.{AuthRequest, Initiate, Invoice, Payment}
 use Rattle.record.specs.Parts.{Message}
-use Rattle.record.specs.Table.{Record, lawfulRecord, messageAt, messages, roomOf}
+use Rattle.record.specs.Table.{Record, lawfulRecord, messageAt, messages, roomOf, withMessage}
 use Rattle.record.specs.Tests.{all}
 use Rattle.record.specs.declared.parts.Buyer.{Buyer}
 use Rattle.record.specs.declared.parts.Place.{Place}
@@ -26,7 +26,7 @@ use Rattle.rules.specs.Codes.{
   starts,
 }
 use Rattle.rules.specs.Forged.{forged, given}
-use Rattle.rules.specs.Gates.{_unless_, through}
+use Rattle.rules.specs.Gates.{Gate, _unless_, through}
 use Rattle.rules.specs.Honest.{
   Claim,
   askClaims,
@@ -42,7 +42,7 @@ use Rattle.rules.specs.Honest.{
 }
 use Rattle.rules.specs.Items.{eachArgument, holding, inRange, placed}
 
--- a step is seven numbers: a code and six arguments
+-- a step is seven numbers: a code and six arguments. Numbers that are left off count as 0, and those past the seventh are never read
 abbrev pub Step : Type 0
 Step = List ℕ
 
@@ -98,18 +98,20 @@ module _ (R : Record) (ks : List Argument) (xs : List ℕ) where
   added answers replies = replied answers theRequest
   added answers (forges k) = forged R ks xs k
 
--- a step by its row
-unfoldable pub judgeRow : ℕ → ℕ → Record → Bool → Row → List ℕ → Outcome
-judgeRow answers room R isKnown x xs =
-    through
-    (2 unless isKnown
+-- refusals 2 to 7 in their order, for a step by its row
+abbrev pub gates : ℕ → Record → Bool → Row → List ℕ → List Gate
+gates room R isKnown x xs =
+    2 unless isKnown
     ∷ 3 unless eachArgument inRange (x .takes) xs
     ∷ 4 unless eachArgument (placed (length R)) (x .takes) xs
     ∷ 5 unless eachArgument (holding R) (x .takes) xs
     ∷ 6 unless all holds (claims R (x .takes) xs (x .deed))
     ∷ 7 unless ltb (length R) room
-    ∷ [])
-    refused (accepted (added R (x .takes) xs answers (x .deed)))
+    ∷ []
+
+unfoldable pub judgeRow : ℕ → ℕ → Record → Bool → Row → List ℕ → Outcome
+judgeRow answers room R isKnown x xs =
+    through (gates room R isKnown x xs) refused (accepted (added R (x .takes) xs answers (x .deed)))
 
 -- with these account answers and room
 unfoldable pub judge : ℕ → ℕ → Record → Step → Outcome
@@ -135,5 +137,5 @@ recordAfter R (accepted x) = R ++ (x ∷ [])
 recordAfter R (refused k) = R
 
 abbrev pub tableAfter : ℕ → List ℕ → Outcome → List ℕ
-tableAfter n t (accepted x) = take (n * messageWidth) t ++ x ++ drop (n * messageWidth + messageWidth) t
+tableAfter n t (accepted x) = withMessage n t x
 tableAfter n t (refused k) = t

@@ -38,10 +38,12 @@ pub fn judge_step(t: &mut [u16], n: usize, answers: u16, s: &[u16]) -> Answer
         return Answer::Refused(found);
     }
     let draft = drafted(t, n, answers, s);
-    if !draft.allowed {
+    let barred = !draft.allowed;
+    let full = room(t) <= n;
+    if barred {
         return Answer::Refused(6);
     }
-    if room(t) <= n {
+    if full {
         return Answer::Refused(7);
     }
     let m = draft.message;

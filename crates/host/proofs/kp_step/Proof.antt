@@ -1,3 +1,4 @@
+-- `host::kp_step` meets its promise.
 use borrow.Author.Needs.{needs}
 use mathlib.Core.Path.{_∙_, ap, sym}
 use native.Mathlib.Omega.{arith}

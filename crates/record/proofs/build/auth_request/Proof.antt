@@ -1,3 +1,4 @@
+-- `record::build::auth_request` meets its promise.
 use Prim.Native.Nat.{ℕ}
 use borrow.Author.Needs.{needs}
 use mathlib.Core.List.{List}

@@ -1,3 +1,4 @@
+-- `record::build::auth_response` meets its promise.
 use Prim.Native.Nat.{ℕ}
 use borrow.Author.Needs.{needs}
 use lib.ListN.{length, length-set, set}

@@ -1,3 +1,4 @@
+-- `record::lawful::bounded` meets its promise.
 use borrow.Author.Tests.{le-leb, lt-leb}
 use mathlib.Core.Path.{refl}
 use Rattle.record.proofs.Chain.{skip, stop}

@@ -1,3 +1,4 @@
+-- `record::lawful::in_range` meets its promise.
 use borrow.Author.Needs.{needs}
 use borrow.Author.Tests.{ne-eqb}
 use Rattle.record.proofs.lawful.in_range.Statement.{statement}

@@ -1,3 +1,4 @@
+-- `record::lawful::is_lawful` meets its promise.
 use Prim.Native.Nat.{_-_, _<_, suc, zero, ℕ}
 use borrow.Author.Needs.{needs}
 use borrow.Author.Tests.{eq-eqb, ne-eqb}

@@ -1,3 +1,4 @@
+-- `record::parts::same_drawn` meets its promise.
 use borrow.Author.Tests.{eq-eqb, ne-eqb}
 use mathlib.Core.Path.{refl}
 use Rattle.record.proofs.Chain.{last, skip, stop}

@@ -1,3 +1,4 @@
+-- `record::parts::same_hashed` meets its promise.
 use borrow.Author.Needs.{needs}
 use borrow.Author.Tests.{not-false, not-true}
 use mathlib.Core.List.{[], _∷_}

@@ -1,3 +1,4 @@
+-- `record::parts::same_mark` meets its promise.
 use borrow.Author.Needs.{needs}
 use borrow.Author.Tests.{eq-eqb, ne-eqb}
 use Rattle.record.proofs.Chain.{skip, stop}

@@ -1,3 +1,4 @@
+-- `record::parts::same_slip` meets its promise.
 use Prim.Native.Nat.{ℕ}
 use borrow.Author.Needs.{needs}
 use borrow.Author.Tests.{eq-eqb, ne-eqb, not-false, not-true}

@@ -1,3 +1,4 @@
+-- `record::parts::slip_at` meets its promise.
 use Prim.Native.Nat.{_+_}
 use borrow.Author.Needs.{needs}
 use Rattle.record.specs.Parts.{accountAt, gatewayAt, markWidth}

@@ -1,3 +1,4 @@
+-- `record::put::put_mark` meets its promise.
 use borrow.Author.Needs.{needs}
 use lib.ListN.{length-set}
 use native.Mathlib.Omega.{arith}

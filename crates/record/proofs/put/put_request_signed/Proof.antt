@@ -1,3 +1,4 @@
+-- `record::put::put_request_signed` meets its promise.
 use Prim.Native.Nat.{_+_, ℕ}
 use borrow.Author.Needs.{needs}
 use lib.ListN.{length-set}

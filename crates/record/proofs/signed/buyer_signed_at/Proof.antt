@@ -1,3 +1,4 @@
+-- `record::signed::buyer_signed_at` meets its promise.
 use borrow.Author.Needs.{needs}
 use Rattle.record.specs.Parts.{buyerAt}
 use Rattle.record.proofs.signed.buyer_signed_at.Statement.{statement}

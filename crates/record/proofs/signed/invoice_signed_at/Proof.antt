@@ -1,3 +1,4 @@
+-- `record::signed::invoice_signed_at` meets its promise.
 use borrow.Author.Needs.{needs}
 use Rattle.record.specs.Parts.{sellerAt}
 use Rattle.record.proofs.signed.invoice_signed_at.Statement.{statement}

@@ -1,3 +1,4 @@
+-- `record::signed::reply_signed_at` meets its promise.
 use Prim.Native.Nat.{_+_}
 use borrow.Author.Needs.{needs}
 use lib.ListN.{getD}

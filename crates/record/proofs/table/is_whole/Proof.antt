@@ -1,3 +1,4 @@
+-- `record::table::is_whole` meets its promise.
 use borrow.Author.Needs.{needs}
 use borrow.Author.Tests.{eq-eqb, ne-eqb}
 use mathlib.Core.Path.{refl}

@@ -1,3 +1,4 @@
+-- `record::table::message` meets its promise.
 use Prim.Native.Nat.{_*_, _-_}
 use borrow.Author.Needs.{needs}
 use native.Mathlib.Omega.{arith}

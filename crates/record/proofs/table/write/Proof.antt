@@ -1,3 +1,4 @@
+-- `record::table::write` meets its promise.
 use Prim.Native.Nat.{_*_, _+_, _-_, _<_, _≤_, ℕ}
 use borrow.Author.Needs.{needs}
 use lib.ListN.{drop, getD, length, length-set, set, take}

@@ -1,3 +1,4 @@
+-- `runs::report::all_stand` meets its promise.
 use Prim.Native.Nat.{_-_, _≤_, ℕ}
 use borrow.Author.Needs.{needs}
 use borrow.Author.Tests.{not-false, not-true}

@@ -1,3 +1,4 @@
+-- `runs::report::is_house_reply` meets its promise.
 use borrow.Author.Needs.{needs}
 use borrow.Author.Tests.{eq-eqb, ne-eqb}
 use mathlib.Core.Path.{refl}

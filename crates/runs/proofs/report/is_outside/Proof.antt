@@ -1,3 +1,4 @@
+-- `runs::report::is_outside` meets its promise.
 use borrow.Author.Tests.{eq-eqb, ne-eqb}
 use mathlib.Core.Path.{refl}
 use Rattle.record.proofs.Chain.{skip, stop}

@@ -1,3 +1,4 @@
+-- `runs::report::its_payment` meets its promise.
 use borrow.Author.Needs.{needs}
 use mathlib.Core.Path.{_∙_, ap}
 use Rattle.record.specs.declared.parts.Slip.{Slip}

@@ -1,3 +1,4 @@
+-- `runs::report::report` meets its promise.
 use Prim.Native.Nat.{_-_}
 use borrow.Author.Needs.{needs}
 use borrow.Author.Tests.{not-false, not-true}

@@ -1,3 +1,4 @@
+-- `runs::report::report_on` meets its promise.
 use borrow.Author.Needs.{needs}
 use mathlib.Core.Path.{_∙_, refl, sym}
 use Rattle.rules.specs.Report.{reportOn}

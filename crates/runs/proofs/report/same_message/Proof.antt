@@ -1,3 +1,4 @@
+-- `runs::report::same_message` meets its promise.
 use Prim.Native.Nat.{_-_, _≤_}
 use borrow.Author.Needs.{needs}
 use borrow.Author.Tests.{eq-eqb, ne-eqb}

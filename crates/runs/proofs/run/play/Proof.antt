@@ -1,3 +1,4 @@
+-- `runs::run::play` meets its promise.
 use Prim.Native.Nat.{_*_, _+_, _-_, _/_, _≤_, ℕ}
 use borrow.Author.Needs.{needs}
 use lib.Dec.{eqb, leb}

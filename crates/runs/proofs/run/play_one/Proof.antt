@@ -1,3 +1,4 @@
+-- `runs::run::play_one` meets its promise.
 use borrow.Author.Needs.{needs}
 use mathlib.Core.Path.{subst}
 use Rattle.record.specs.Table.{messages, roomOf}

@@ -1,3 +1,4 @@
+-- `runs::run::run` meets its promise.
 use borrow.Author.Needs.{needs}
 use borrow.Author.Tests.{le-leb, lt-leb, not-false, not-true}
 use lib.ListN.{length}

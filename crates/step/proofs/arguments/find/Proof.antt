@@ -1,3 +1,4 @@
+-- `step::arguments::find` meets its promise.
 use Prim.Native.Nat.{_-_, _≤_}
 use borrow.Author.Needs.{needs}
 use borrow.Author.Tests.{eq-eqb, ne-eqb}

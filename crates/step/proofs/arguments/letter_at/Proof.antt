@@ -1,3 +1,4 @@
+-- `step::arguments::letter_at` meets its promise.
 use borrow.Author.Needs.{needs}
 use Rattle.step.proofs.Takes.{letters}
 use Rattle.step.proofs.arguments.letter_at.Statement.{statement}

@@ -1,3 +1,4 @@
+-- `step::drafts::drafted` meets its promise.
 use Prim.Native.Nat.{_+_, _<_, ℕ}
 use borrow.Author.Needs.{needs}
 use lib.ListN.{getD}

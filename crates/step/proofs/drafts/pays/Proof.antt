@@ -1,3 +1,4 @@
+-- `step::drafts::pays` meets its promise.
 use borrow.Author.Needs.{needs}
 use lib.ListN.{getD}
 use mathlib.Core.Path.{_∙_, refl}

@@ -1,3 +1,4 @@
+-- `step::faults::account_fault` meets its promise.
 use borrow.Author.Needs.{needs}
 use mathlib.Core.Path.{_∙_}
 use Rattle.record.specs.Table.{messages}

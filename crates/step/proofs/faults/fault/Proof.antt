@@ -1,3 +1,4 @@
+-- `step::faults::fault` meets its promise.
 use borrow.Author.Needs.{needs}
 use mathlib.Core.Path.{_∙_, sym}
 use Rattle.record.specs.Table.{messages}

@@ -1,3 +1,4 @@
+-- `step::faults::first_fault` meets its promise.
 use Prim.Native.Nat.{_+_, _-_, _≤_, min, ℕ}
 use borrow.Author.Needs.{needs}
 use lib.ListN.{drop, getD}

@@ -1,3 +1,4 @@
+-- `step::faults::range_fault` meets its promise.
 use mathlib.Core.Path.{refl}
 use Rattle.step.proofs.Lowest.{above, below, inside}
 use Rattle.step.proofs.Picks.{no, yes}

@@ -1,3 +1,4 @@
+-- `step::faults::unused_fault` meets its promise.
 use borrow.Author.Tests.{eq-eqb, ne-eqb}
 use mathlib.Core.Path.{refl}
 use Rattle.step.proofs.Picks.{no, yes}

@@ -1,3 +1,4 @@
+-- `step::forged::account` meets its promise.
 use borrow.Author.Needs.{needs}
 use mathlib.Core.Path.{_∙_, ap, refl}
 use Rattle.record.specs.Parts.{Message}

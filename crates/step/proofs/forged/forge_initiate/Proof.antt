@@ -1,3 +1,4 @@
+-- `step::forged::forge_initiate` meets its promise.
 use borrow.Author.Needs.{needs}
 use mathlib.Core.Path.{_∙_, _≡_, refl}
 use Rattle.record.specs.Layout.{anInitiate}

@@ -1,3 +1,4 @@
+-- `step::forged::gather` meets its promise.
 use borrow.Author.Needs.{needs}
 use mathlib.Core.Path.{_∙_, _≡_, ap, refl}
 use Rattle.record.specs.Table.{messages}

@@ -1,3 +1,4 @@
+-- `step::forged::number` meets its promise.
 use borrow.Author.Needs.{needs}
 use mathlib.Core.Path.{_∙_, sym}
 use Rattle.rules.specs.Step.{argumentsOf}

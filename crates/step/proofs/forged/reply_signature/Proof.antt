@@ -1,3 +1,4 @@
+-- `step::forged::reply_signature` meets its promise.
 use borrow.Author.Needs.{needs}
 use mathlib.Core.Path.{_∙_, ap, refl, sym}
 use Rattle.rules.specs.Codes.{Argument, Item}

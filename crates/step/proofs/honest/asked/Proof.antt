@@ -1,3 +1,4 @@
+-- `step::honest::asked` meets its promise.
 use borrow.Author.Needs.{needs}
 use mathlib.Core.Path.{_∙_}
 use Rattle.rules.specs.Honest.{requestBy}

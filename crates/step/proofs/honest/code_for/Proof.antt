@@ -1,3 +1,4 @@
+-- `step::honest::code_for` meets its promise.
 use Prim.Native.Nat.{_%_, _/_, _<_, _^_, _≤_, ℕ}
 use borrow.Author.Needs.{needs}
 use borrow.Author.Tests.{eq-eqb, ne-eqb}

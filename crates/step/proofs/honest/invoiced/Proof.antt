@@ -1,3 +1,4 @@
+-- `step::honest::invoiced` meets its promise.
 use borrow.Author.Needs.{needs}
 use mathlib.Core.Path.{_∙_, ap}
 use Rattle.record.specs.Layout.{source}

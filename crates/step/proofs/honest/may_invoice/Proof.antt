@@ -1,3 +1,4 @@
+-- `step::honest::may_invoice` meets its promise.
 use borrow.Author.Needs.{needs}
 use mathlib.Core.Path.{refl}
 use Rattle.record.proofs.Chain.{last}

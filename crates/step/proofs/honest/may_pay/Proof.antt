@@ -1,3 +1,4 @@
+-- `step::honest::may_pay` meets its promise.
 use borrow.Author.Needs.{needs}
 use borrow.Author.Tests.{not-false, not-true}
 use mathlib.Core.Path.{_∙_, _≡_, ap, ap₂, refl, sym}

@@ -1,3 +1,4 @@
+-- `step::honest::order_mark` meets its promise.
 use borrow.Author.Needs.{needs}
 use Rattle.record.specs.Layout.{destination}
 use Rattle.record.specs.Parts.{sellerAt}

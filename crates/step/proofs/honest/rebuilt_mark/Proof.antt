@@ -1,3 +1,4 @@
+-- `step::honest::rebuilt_mark` meets its promise.
 use borrow.Author.Needs.{needs}
 use Rattle.step.proofs.honest.rebuilt_mark.Statement.{statement}
 use Rattle.step.proofs.honest.rebuilt_mark.Tie as tie

@@ -1,3 +1,4 @@
+-- `step::honest::replied` meets its promise.
 use Prim.Native.Nat.{ℕ}
 use borrow.Author.Needs.{needs}
 use mathlib.Core.Path.{_∙_, _≡_, ap}

@@ -1,3 +1,4 @@
+-- `step::items::has_slip` meets its promise.
 use borrow.Author.Needs.{needs}
 use borrow.Author.Tests.{eq-eqb, ne-eqb}
 use mathlib.Core.Path.{_∙_, _≡_, ap, refl, sym}

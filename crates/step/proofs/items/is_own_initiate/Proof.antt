@@ -1,3 +1,4 @@
+-- `step::items::is_own_initiate` meets its promise.
 use borrow.Author.Needs.{needs}
 use borrow.Author.Tests.{eq-eqb, ne-eqb}
 use lib.Dec.{eqb}

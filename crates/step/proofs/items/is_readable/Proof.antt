@@ -1,3 +1,4 @@
+-- `step::items::is_readable` meets its promise.
 use borrow.Author.Needs.{needs}
 use borrow.Author.Tests.{eq-eqb, ne-eqb, not-false, not-true}
 use lib.Dec.{eqb}

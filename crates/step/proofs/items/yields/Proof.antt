@@ -1,3 +1,4 @@
+-- `step::items::yields` meets its promise.
 use borrow.Author.Needs.{needs}
 use borrow.Author.Tests.{ne-eqb}
 use lib.Dec.{eqb}

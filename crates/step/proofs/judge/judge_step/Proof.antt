@@ -1,5 +1,6 @@
+-- `step::judge::judge_step` meets its promise.
 use borrow.Author.Needs.{needs}
-use borrow.Author.Tests.{le-ltb, lt-ltb, not-false, not-true}
+use borrow.Author.Tests.{le-ltb, leb-false, leb-true, lt-ltb, not-false, not-true}
 use mathlib.Core.Bool.{true}
 use mathlib.Core.Path.{_∙_, _≡_, ap, refl, sym}
 use native.Mathlib.Omega.{arith}
@@ -40,38 +41,47 @@ drafted-requires c κs =
 
 returns-4 : tie.Need-returns-4
 returns-4 c =
-    let the-drafted = c .before .before .drafted in
-    let the-if3 = c .before .before .before .before .if3 in
-    let the-first-fault = c .before .before .before .before .before .first-fault in
-    let the-if2 = c .before .before .before .before .before .before .before .if2 in
-    let the-if1 = c .before .before .before .before .before .before .before .before .if1 in
-    let the-args = c .before .before .before .before .before .before .before .before .before .before .before .before .args in
+    let the-drafted = c .before .before .before .before .drafted in
+    let the-if3 = c .before .before .before .before .before .before .if3 in
+    let the-first-fault = c .before .before .before .before .before .before .before .first-fault in
+    let the-if2 = c .before .before .before .before .before .before .before .before .before .if2 in
+    let the-if1 = c .before .before .before .before .before .before .before .before .before .before .if1 in
+    let the-args = c .before .before .before .before .before .before .before .before .before .before .before .before .before .before .args in
     refuses (the-args .n) (the-args .t .now) (not-allowed (the-args .answers) (the-args .n) (the-args .t .now) (the-args .s .now) (inside (the-if1 .left) (the-if2 .left)) (sym (the-if3 .left) ∙ the-first-fault .ensures) (the-drafted .result) (the-drafted .ensures) (not-true _ (c .if4 .taken)))
 
 returns-5 : tie.Need-returns-5
 returns-5 c =
-    let the-if4 = c .before .before .before .if4 in
+    let the-room = c .before .before .room in
     let the-drafted = c .before .before .before .before .before .drafted in
     let the-if3 = c .before .before .before .before .before .before .before .if3 in
     let the-first-fault = c .before .before .before .before .before .before .before .before .first-fault in
     let the-if2 = c .before .before .before .before .before .before .before .before .before .before .if2 in
     let the-if1 = c .before .before .before .before .before .before .before .before .before .before .before .if1 in
     let the-args = c .before .before .before .before .before .before .before .before .before .before .before .before .before .before .before .args in
-    refuses (the-args .n) (the-args .t .now) (full (the-args .answers) (the-args .n) (the-args .t .now) (the-args .s .now) (inside (the-if1 .left) (the-if2 .left)) (sym (the-if3 .left) ∙ the-first-fault .ensures) (the-drafted .result) (the-drafted .ensures) (not-false _ (the-if4 .left)) (le-ltb (the-args .n) (roomOf (the-args .t .now)) (omega (arith, c .if5 .taken, c .before .room .ensures))))
+    refuses (the-args .n) (the-args .t .now) (full (the-args .answers) (the-args .n) (the-args .t .now) (the-args .s .now) (inside (the-if1 .left) (the-if2 .left)) (sym (the-if3 .left) ∙ the-first-fault .ensures) (the-drafted .result) (the-drafted .ensures) (not-false _ (c .before .if4 .left)) (le-ltb (the-args .n) (roomOf (the-args .t .now)) (omega (arith, leb-true (the-room .result) (the-args .n) (c .if5 .taken), the-room .ensures))))
+
+write-requires : tie.Need-write-requires
+write-requires c κs =
+    let the-if5 = c .before .before .before .if5 in
+    let the-room = c .before .before .before .before .before .room in
+    let the-args = c .before .before .before .before .before .before .before .before .before .before .before .before .before .before .before .before .before .before .args in
+    (omega (arith, leb-false (the-room .result) (the-args .n) (the-if5 .left), the-room .ensures), search needs)
 
 returns-6 : tie.Need-returns-6
 returns-6 c =
     let the-write = c .before .before .write in
     let the-if5 = c .before .before .before .before .before .before .if5 in
-    let the-room = c .before .before .before .before .before .before .before .room in
-    let the-if4 = c .before .before .before .before .before .before .before .before .before .if4 in
+    let the-if4 = c .before .before .before .before .before .before .before .if4 in
+    let the-room = c .before .before .before .before .before .before .before .before .room in
     let the-drafted = c .before .before .before .before .before .before .before .before .before .before .before .drafted in
     let the-if3 = c .before .before .before .before .before .before .before .before .before .before .before .before .before .if3 in
     let the-first-fault = c .before .before .before .before .before .before .before .before .before .before .before .before .before .before .first-fault in
     let the-if2 = c .before .before .before .before .before .before .before .before .before .before .before .before .before .before .before .before .if2 in
     let the-if1 = c .before .before .before .before .before .before .before .before .before .before .before .before .before .before .before .before .before .if1 in
     let the-args = c .before .before .before .before .before .before .before .before .before .before .before .before .before .before .before .before .before .before .before .before .before .args in
-    accepts (the-args .n) (the-args .t .now) (the-drafted .result .message) (taken (the-args .answers) (the-args .n) (the-args .t .now) (the-args .s .now) (inside (the-if1 .left) (the-if2 .left)) (sym (the-if3 .left) ∙ the-first-fault .ensures) (the-drafted .result) (the-drafted .ensures) (not-false _ (the-if4 .left)) (lt-ltb (the-args .n) (roomOf (the-args .t .now)) (omega (arith, the-if5 .left, the-room .ensures)))) (the-write .ensures) (under-most (the-args .n) (the-args .t .now) (c .before .before .before .before .before .before .before .before .before .before .before .before .before .before .before .before .before .before .before .before .before .pre .0) (omega (arith, the-if5 .left, the-room .ensures)))
+    let the-pre = c .before .before .before .before .before .before .before .before .before .before .before .before .before .before .before .before .before .before .before .before .before .pre in
+    let more = leb-false (the-room .result) (the-args .n) (the-if5 .left) in
+    accepts (the-args .n) (the-args .t .now) (the-drafted .result .message) (taken (the-args .answers) (the-args .n) (the-args .t .now) (the-args .s .now) (inside (the-if1 .left) (the-if2 .left)) (sym (the-if3 .left) ∙ the-first-fault .ensures) (the-drafted .result) (the-drafted .ensures) (not-false _ (the-if4 .left)) (lt-ltb (the-args .n) (roomOf (the-args .t .now)) (omega (arith, more, the-room .ensures)))) (the-write .ensures) (under-most (the-args .n) (the-args .t .now) (the-pre .0) (omega (arith, more, the-room .ensures)))
 
 pub judge-step-spec : {M : Type 1} → statement M
 judge-step-spec =
@@ -84,13 +94,13 @@ judge-step-spec =
     (λ c. search needs)
     returns-3
     drafted-requires
+    (λ c κs. search needs)
     (λ c. search needs)
     returns-4
-    (λ c κs. search needs)
     (λ c. search needs)
     returns-5
     (λ c. search needs)
-    (λ c κs. search needs)
+    write-requires
     (λ c. search needs)
     (λ c. search needs)
     returns-6)

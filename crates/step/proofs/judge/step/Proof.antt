@@ -1,3 +1,4 @@
+-- `step::judge::step` meets its promise.
 use borrow.Author.Needs.{needs}
 use borrow.Author.Tests.{not-false, not-true}
 use mathlib.Core.Path.{_∙_, subst, sym}

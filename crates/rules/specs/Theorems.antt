@@ -1,0 +1,77 @@
+-- The theorems as statements, each over the definitions that the promises of the step, the run and the report cite. A reached record is what
+-- any list of steps, forgeries and refused steps included, leaves when it is played from an empty one, with any account answers and room.
+-- Where each is proved is said beside it.
+use Prim.Native.Nat.{ℕ, _≤_}
+use mathlib.Core.Bool.{true}
+use mathlib.Core.List.{List, [], _++_}
+use mathlib.Core.Path.{_≡_}
+use lib.ListN.{length, take}
+use Rattle.record.specs.Lawful.{buyers, lawful, sellers, within}
+use Rattle.record.specs.Table.{Record, lawfulRecord, messages, mostRoom, roomOf}
+use Rattle.record.specs.Tests.{all}
+use Rattle.record.specs.declared.parts.Place.{Place}
+use Rattle.rules.specs.Agreed.{Agreed, BothOutside, HouseReplyAt, Reported}
+use Rattle.rules.specs.Promised.{Kept}
+use Rattle.rules.specs.Reached.{HoldsReached, Reached}
+use Rattle.rules.specs.Report.{earlier, paymentAt, report}
+use Rattle.rules.specs.Run.{played, run}
+use Rattle.rules.specs.Session.{Completed, RoomAtEach, Setting}
+use Rattle.rules.specs.Step.{Step, judge, judgeTable}
+
+-- A house reply for a payment whose buyer and seller are not both the outsider has, earlier in the record, the Initiate and the Payment made
+-- by that buyer and the Invoice and the Auth-Request made by that seller, all for that same payment. (proofs/Agreement)
+abbrev pub Agreement : Type 0
+Agreement =
+    (answers room : ℕ) (R : Record) → Reached answers room R → (p : Place) → HouseReplyAt R p → ¬ BothOutside (paymentAt R p)
+    → Agreed (paymentAt R p) (earlier R p)
+
+-- From any reached record, for any buyer and seller (0 to 15, the outsider too), the five steps of an honest session are accepted, with any
+-- lists of other steps between them, if there is room at each of the five; and the reply is reported 20, or 21 for the outsider with himself.
+-- (proofs/Session)
+abbrev pub Sessions : Type 0
+Sessions =
+    (c : Setting) → Reached (c .answers) (c .room) (c .start) → within buyers (c .buyer .0) ≡ true → within sellers (c .seller .0) ≡ true
+    → RoomAtEach c → Completed c
+
+-- On a table that holds a reached record the report on a house reply is 20 exactly when buyer and seller of the payment are not both the
+-- outsider, and 21 exactly when they are; and 22 is the report on no place at all. (proofs/Reports)
+abbrev pub Reports : Type 0
+Reports =
+    (answers n : ℕ) (t : List ℕ) → HoldsReached answers n t → (p : Place) → HouseReplyAt (messages n t) p
+    → Reported (paymentAt (messages n t) p) (report n t p)
+
+abbrev pub Never22 : Type 0
+Never22 = (answers n : ℕ) (t : List ℕ) → HoldsReached answers n t → (p : Place) → ¬ (report n t p ≡ 22)
+
+-- Every message of a reached record is lawful, for room up to 512; so a run never meets refusal 1, and a step on a table that holds a reached
+-- record says what the run said. (proofs/LawfulReached)
+abbrev pub ReachedLawful : Type 0
+ReachedLawful = (answers room : ℕ) → room ≤ mostRoom → (R : Record) → Reached answers room R → all lawful R ≡ true
+
+abbrev pub TableLawful : Type 0
+TableLawful = (answers n : ℕ) (t : List ℕ) → HoldsReached answers n t → lawfulRecord n t ≡ true
+
+abbrev pub StepAsRun : Type 0
+StepAsRun =
+    (answers n : ℕ) (t : List ℕ) → HoldsReached answers n t → (s : Step)
+    → judgeTable answers n t s ≡ judge answers (roomOf t) (messages n t) s
+
+-- With the same account answers and room, the messages left by a shorter list are the first messages of the record of any list that
+-- continues it. (proofs/Reached)
+abbrev pub Prefixes : Type 0
+Prefixes =
+    (answers room : ℕ) (ss ts : List Step)
+    → let shorter = played answers room [] ss in take (length shorter) (played answers room [] (ss ++ ts)) ≡ shorter
+
+-- All of this holds of whatever a run that was not refused leaves in the table that it was lent. (proofs/Runs)
+abbrev pub RunKeeps : Type 0
+RunKeeps =
+    (answers : ℕ) (t xs bytes : List ℕ) → run answers t xs bytes .number ≡ 0 → Kept answers t xs (run answers t xs bytes)
+
+abbrev pub RunPrefixes : Type 0
+RunPrefixes =
+    (answers : ℕ) (t u xs ys bytes more : List ℕ) → roomOf t ≡ roomOf u
+    → let shorter = run answers t xs bytes in
+    let longer = run answers u (xs ++ ys) more in
+    shorter .number ≡ 0 → longer .number ≡ 0
+    → take (shorter .n) (messages (longer .n) (longer .table)) ≡ messages (shorter .n) (shorter .table)
