@@ -1,0 +1,98 @@
+-- Step text on lists of bytes: the lines of a text, the numbers of a line, and which lines document 01 calls readable.
+use Prim.Native.Nat.{ℕ, _*_, _+_, _-_}
+use mathlib.Core.Bool.{Bool, _&&_, _||_, cond, not}
+use mathlib.Core.List.{List, [], _∷_, _++_, map}
+use lib.Dec.{eqb, leb}
+use lib.ListN.{drop, getD, length, take}
+use Rattle.record.specs.Lawful.{between}
+use Rattle.record.specs.Layout.{filled}
+use Rattle.record.specs.Tests.{all, every, same}
+use Rattle.rules.specs.Run.{stepWidth}
+use Rattle.rules.specs.Step.{Step}
+
+abbrev pub Text : Type 0
+Text = List ℕ
+
+abbrev pub tab : ℕ
+tab = 9
+
+abbrev pub lineFeed : ℕ
+lineFeed = 10
+
+abbrev pub digit0 : ℕ
+digit0 = 48
+
+abbrev pub letterA : ℕ
+letterA = 65
+
+-- a byte more in front of the first of these texts
+abbrev pub onto : ℕ → List Text → List Text
+onto x [] = (x ∷ []) ∷ []
+onto x (t ∷ ts) = (x ∷ t) ∷ ts
+
+-- the lines of a text in order, line feed and all; the last may lack it
+abbrev pub lines : Text → List Text
+lines [] = []
+lines (x ∷ xs) = cond (eqb x lineFeed) ((x ∷ []) ∷ lines xs) (onto x (lines xs))
+
+-- the line that starts after so many bytes of a text; none is left where this is empty
+unfoldable pub lineAt : Text → ℕ → Text
+lineAt t at = getD (lines (drop at t)) 0 []
+
+-- the parts of a text between its tabs
+abbrev pub parts : Text → List Text
+parts [] = [] ∷ []
+parts (x ∷ xs) = cond (eqb x tab) ([] ∷ parts xs) (onto x (parts xs))
+
+-- a number: 1 to 5 digits, no needless leading 0, at most 65,535
+abbrev pub isDigit : ℕ → Bool
+isDigit x = between digit0 x (digit0 + 9)
+
+-- the digits after those that have given a value
+abbrev pub valueFrom : ℕ → Text → ℕ
+valueFrom value [] = value
+valueFrom value (x ∷ xs) = valueFrom (value * 10 + (x - digit0)) xs
+
+abbrev pub valueOf : Text → ℕ
+valueOf xs = valueFrom 0 xs
+
+abbrev pub mostDigits : ℕ
+mostDigits = 5
+
+abbrev pub mostNumber : ℕ
+mostNumber = 65535
+
+unfoldable pub isNumber : Text → Bool
+isNumber xs =
+    every
+    (all isDigit xs
+    ∷ between 1 (length xs) mostDigits
+    ∷ (eqb (length xs) 1 || not (eqb (getD xs 0 0) digit0))
+    ∷ leb (valueOf xs) mostNumber
+    ∷ [])
+
+-- a line is its body and a line feed
+abbrev pub body : Text → Text
+body l = take (length l - 1) l
+
+abbrev pub isEnded : Text → Bool
+isEnded l = same l (body l ++ lineFeed ∷ [])
+
+-- line 1: `A`, tab, account answers
+abbrev pub answersStart : Text
+answersStart = letterA ∷ tab ∷ []
+
+unfoldable pub isAnswersLine : Text → Bool
+isAnswersLine l =
+    every (isEnded l ∷ same (take 2 l) answersStart ∷ isNumber (drop 2 (body l)) ∷ [])
+
+unfoldable pub answersIn : Text → ℕ
+answersIn l = valueOf (drop 2 (body l))
+
+-- every other line: a code and 0 to 6 arguments, parted by tabs; those left off are 0
+unfoldable pub isStepLine : Text → Bool
+isStepLine l =
+    every (isEnded l ∷ all isNumber (parts (body l)) ∷ leb (length (parts (body l))) stepWidth ∷ [])
+
+unfoldable pub stepIn : Text → Step
+stepIn l = filled stepWidth 0 (map valueOf (parts (body l)))
