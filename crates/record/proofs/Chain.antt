@@ -2,10 +2,12 @@
 use mathlib.Core.Bool.{Bool, true, false, not, _&&_, and-true, and-assoc, true≢false, false≢true}
 use mathlib.Core.List.{List, [], _∷_, _++_}
 use mathlib.Core.Path.{_≡_, _∙_, refl, sym, ap, subst}
-use Prim.Native.Nat.{ℕ, suc}
+use Prim.Native.Nat.{ℕ, suc, _≤_, _<_}
 use native.Mathlib.Omega.{arith}
+use borrow.Author.Tests.{le-leb, lt-leb}
 use lib.Dec.{eqb}
 use lib.ListN.{length}
+use Rattle.record.specs.Lawful.{between}
 use Rattle.record.specs.Tests.{same}
 
 pub skip : {a b r : Bool} → a ≡ true → r ≡ b → r ≡ (a && b)
@@ -25,6 +27,16 @@ left-of false b e = e
 pub right-of : (a b : Bool) → (a && b) ≡ true → b ≡ true
 right-of true b e = e
 right-of false b e = absurd (false≢true e)
+
+-- a number and a range: two tests
+pub inside : {l x u : ℕ} → l ≤ x → x ≤ u → between l x u ≡ true
+inside p q = sym (skip (le-leb _ _ p) (sym (le-leb _ _ q)))
+
+pub below : {l x : ℕ} (u : ℕ) → x < l → between l x u ≡ false
+below u p = sym (stop _ (lt-leb _ _ p))
+
+pub above : {l x u : ℕ} → l ≤ x → u < x → between l x u ≡ false
+above p q = sym (skip (le-leb _ _ p) (sym (lt-leb _ _ q)))
 
 -- two lists are compared part by part
 pub same-parts : (xs us ys vs : List ℕ) → length xs ≡ length us → same (xs ++ ys) (us ++ vs) ≡ (same xs us && same ys vs)

@@ -37,6 +37,9 @@ pub struct Account(pub u16);
 
 pub struct Place(pub usize);
 
+// Gateway 1.
+pub const HOUSE: u16 = 1;
+
 // Who drew a random number, and the number.
 pub struct Drawn {
     pub drawer: Buyer,

@@ -10,8 +10,8 @@ use Rattle.record.specs.Table.{roomOf, whole}
 use Rattle.rules.specs.Run.{Ran as RanOf, flat, over, played, run, stepCount, stepsOf, verdicts, wholeSteps}
 use Rattle.runs.specs.Ran.{Leaves, Plays}
 use Rattle.runs.specs.declared.run.Ran.the-variants.{Messages, Refused}
-use Rattle.step.proofs.Outcomes.{most}
-use Rattle.step.proofs.Picks.{no, yes}
+use Rattle.record.proofs.Whole.{most}
+use Rattle.record.proofs.Picks.{no, yes}
 
 module _ (answers : ℕ) (t xs bytes : List ℕ) where
   nothing : ℕ → RanOf

@@ -18,7 +18,7 @@ use record::signed::RequestSigned;
 use record::signed::reply_signed_at;
 use record::table::is_lawful_record;
 use record::table::message;
-use step::honest::HOUSE;
+use record::parts::HOUSE;
 ghost use mathlib.Core.Bool.{_||_};
 ghost use mathlib.Core.List.{[], _∷_};
 ghost use mathlib.Core.Path.{_≡_};

@@ -19,10 +19,10 @@ use Rattle.rules.specs.Codes.{Argument, rowOf}
 use Rattle.rules.specs.Honest.{Claim, holds}
 use Rattle.rules.specs.Items.{eachArgument, placed}
 use Rattle.rules.specs.Step.{argumentsOf, codeOf}
-use Rattle.step.proofs.Found.{in-table}
-use Rattle.step.proofs.Takes.{argument-at, six, six-arguments}
+use Rattle.arguments.proofs.Places.{in-table}
+use Rattle.arguments.proofs.Takes.{argument-at, six, six-arguments}
 use Rattle.step.specs.Draft.{DraftOf, Drafted}
-use Rattle.step.specs.Ready.{Known, Ready}
+use Rattle.arguments.specs.Ready.{Known, Ready}
 use Rattle.step.specs.declared.drafts.Draft.{Draft}
 
 written-out : List ℕ → List ℕ

@@ -1,18 +1,18 @@
 // What a step would add, by its code: one match on the 37 codes, with ranges for the forged kinds.
-use crate::forged::forge_initiate;
-use crate::forged::forge_invoice;
-use crate::forged::forge_payment;
-use crate::forged::forge_request;
-use crate::forged::forge_response;
-use crate::honest::asked;
-use crate::honest::invoiced;
-use crate::honest::may_ask;
-use crate::honest::may_invoice;
-use crate::honest::may_pay;
-use crate::honest::may_reply;
-use crate::honest::paid;
-use crate::honest::replied;
-use crate::honest::started;
+use forged::messages::forge_initiate;
+use forged::messages::forge_invoice;
+use forged::messages::forge_payment;
+use forged::messages::forge_request;
+use forged::messages::forge_response;
+use honest::messages::asked;
+use honest::messages::invoiced;
+use honest::conditions::may_ask;
+use honest::conditions::may_invoice;
+use honest::conditions::may_pay;
+use honest::conditions::may_reply;
+use honest::messages::paid;
+use honest::messages::replied;
+use honest::messages::started;
 use record::layout::MESSAGE_WIDTH;
 use record::parts::Buyer;
 use record::parts::Place;
@@ -25,7 +25,7 @@ ghost use Prim.Native.Nat.{ℕ, _<_};
 ghost use Rattle.record.specs.Table.{roomOf};
 ghost use Rattle.rules.specs.Step.{codeOf};
 ghost use Rattle.step.specs.Draft.{DraftOf, Drafted};
-ghost use Rattle.step.specs.Ready.{Ready};
+ghost use Rattle.arguments.specs.Ready.{Ready};
 
 // The message is what the step adds where its condition holds; else it says nothing.
 pub struct Draft {

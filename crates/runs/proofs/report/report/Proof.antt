@@ -11,9 +11,9 @@ use Rattle.record.specs.declared.signed.ReplySigned.{ReplySigned}
 use Rattle.rules.specs.Items.{replySignedIn}
 use Rattle.rules.specs.Report.{houseReply, replyMark, report, reportOn}
 use Rattle.runs.proofs.Standing.{take-messages}
-use Rattle.step.proofs.Lowest.{above, below, inside}
-use Rattle.step.proofs.Outcomes.{lawful-room}
-use Rattle.step.proofs.Picks.{no, yes}
+use Rattle.record.proofs.Chain.{above, below, inside}
+use Rattle.record.proofs.Whole.{lawful-room}
+use Rattle.record.proofs.Picks.{no, yes}
 use Rattle.runs.proofs.report.report.Statement.{statement}
 use Rattle.runs.proofs.report.report.Tie as tie
 

@@ -10,7 +10,8 @@ use Rattle.record.specs.Layout.{AuthRequest, AuthResponse, Initiate, Invoice, P
 use Rattle.rules.specs.Codes.{forges}
 use Rattle.rules.specs.Honest.{started}
 use Rattle.rules.specs.Step.{codeOf}
-use Rattle.step.proofs.Deeds.{as-message, for-table, forged-draft, neighbours}
+use Rattle.arguments.proofs.Places.{for-table}
+use Rattle.step.proofs.Deeds.{as-message, forged-draft, neighbours}
 use Rattle.step.proofs.Seven.{at-code}
 use Rattle.step.proofs.drafts.drafted.Statement.{statement}
 use Rattle.step.proofs.drafts.drafted.Tie as tie

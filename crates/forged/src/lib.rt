@@ -1,0 +1,3 @@
+// The outsider's messages.
+pub mod copied;
+pub mod messages;

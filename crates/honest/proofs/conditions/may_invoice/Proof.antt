@@ -1,0 +1,12 @@
+-- `honest::conditions::may_invoice` meets its promise.
+use borrow.Author.Needs.{needs}
+use mathlib.Core.Path.{refl}
+use Rattle.record.proofs.Chain.{last}
+use Rattle.honest.proofs.conditions.may_invoice.Statement.{statement}
+use Rattle.honest.proofs.conditions.may_invoice.Tie as tie
+
+returns : tie.Need-returns
+returns c = last (last refl)
+
+pub may-invoice-spec : {M : Type 1} → statement M
+may-invoice-spec = tie.close (tie.spec (λ c. search needs) returns)
