@@ -10,7 +10,7 @@ use borrow.Author.Tests.{le-leb, ne-eqb}
 use lib.Dec.{eqb, leb}
 use lib.ListN.{drop, drop-of-length-le, getD, length}
 use lib.Seq.{drop-cons}
-use Rattle.record.specs.Layout.{AuthRequest, AuthResponse, Initiate, Invoice, Payment}
+use Rattle.messages.specs.Layout.{AuthRequest, AuthResponse, Initiate, Invoice, Payment}
 use Rattle.record.specs.Table.{Record, messageAt}
 use Rattle.rules.specs.Codes.{Argument, Item, letter, rowOf}
 use Rattle.rules.specs.Gates.{_unless_, through}

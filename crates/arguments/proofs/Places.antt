@@ -9,8 +9,8 @@ use borrow.Author.Tests.{le-leb, leb-true}
 use lib.Dec.{leb}
 use lib.ListN.{length}
 use Rattle.arguments.specs.Ready.{Ready}
-use Rattle.record.proofs.Chain.{left-of, right-of, skip}
-use Rattle.record.specs.Layout.{messageWidth}
+use Rattle.messages.proofs.Chain.{left-of, right-of, skip}
+use Rattle.messages.specs.Layout.{messageWidth}
 use Rattle.record.specs.Table.{roomOf}
 use Rattle.rules.specs.Codes.{Argument, rowOf}
 use Rattle.rules.specs.Items.{eachArgument, placed}

@@ -10,7 +10,8 @@ use native.Mathlib.Omega.{arith}
 use lib.Dec.{eqb}
 use lib.ListN.{List·getD-map, drop, drop-of-length-le, getD, length, length-drop}
 use lib.Seq.{drop-cons, getD-drop}
-use Rattle.record.proofs.Rows.{even-at, flat, numbered}
+use Rattle.record.specs.Table.{flat}
+use Rattle.record.proofs.Rows.{even-at, numbered}
 use Rattle.rules.specs.Codes.{Argument, Row, letter, row, rowOf, rows, starts, unused}
 use Rattle.rules.specs.Forged.{given, gives}
 use Rattle.rules.specs.Step.{argumentsOf, codeOf}

@@ -3,7 +3,7 @@ use mathlib.Core.Bool.{Bool}
 use mathlib.Core.List.{List, [], _∷_}
 use Prim.Native.Nat.{ℕ}
 use lib.Dec.{eqb}
-use Rattle.record.specs.Lawful.{between}
+use Rattle.messages.specs.Tests.{between}
 use Rattle.record.specs.Table.{Record, messageAt}
 use Rattle.rules.specs.Codes.{Argument}
 use Rattle.rules.specs.Gates.{_unless_, through}

@@ -2,8 +2,8 @@
 use mathlib.Core.Bool.{Bool, true, cond}
 use Prim.Native.Nat.{ℕ}
 use lib.Dec.{eqb}
-use Rattle.record.specs.Layout.{AuthRequest, AuthResponse, Initiate, Invoice, Payment}
-use Rattle.record.specs.Parts.{Message}
+use Rattle.messages.specs.Layout.{AuthRequest, AuthResponse, Initiate, Invoice, Payment}
+use Rattle.messages.specs.Parts.{Message}
 use Rattle.rules.specs.Codes.{Argument, Item}
 use Rattle.rules.specs.Items.{isKind, readable, yields}
 

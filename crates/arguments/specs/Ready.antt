@@ -4,7 +4,7 @@ use mathlib.Core.List.{List}
 use mathlib.Core.Path.{_≡_}
 use Prim.Native.Nat.{ℕ, _≤_, _*_}
 use lib.ListN.{length}
-use Rattle.record.specs.Layout.{messageWidth}
+use Rattle.messages.specs.Layout.{messageWidth}
 use Rattle.rules.specs.Codes.{rowOf}
 use Rattle.rules.specs.Items.{eachArgument, placed}
 use Rattle.rules.specs.Step.{argumentsOf, codeOf}

@@ -3,12 +3,12 @@
 use crate::codes::MOST_ARGUMENTS;
 use crate::codes::letter_at;
 use crate::items::yields;
-use record::parts::Place;
+use messages::parts::Place;
 use record::table::message;
 ghost use mathlib.Core.Path.{_≡_};
 ghost use Prim.Native.Nat.{_*_, _≤_};
 ghost use lib.ListN.{length};
-ghost use Rattle.record.specs.Layout.{messageWidth};
+ghost use Rattle.messages.specs.Layout.{messageWidth};
 ghost use Rattle.record.specs.Table.{messages};
 ghost use Rattle.rules.specs.Codes.{Argument, letter as letterOf, rowOf};
 ghost use Rattle.rules.specs.Step.{argumentsOf, codeOf};

@@ -9,19 +9,19 @@ use native.Mathlib.Omega.{arith}
 use borrow.Author.Tests.{eq-eqb, eqb-true, leb-true, ne-eqb}
 use lib.Dec.{eqb, leb}
 use lib.ListN.{length}
-use Rattle.record.proofs.Chain.{left-of, right-of}
+use Rattle.messages.proofs.Chain.{left-of, right-of}
 use Rattle.record.proofs.Cut.{message-at}
-use Rattle.record.specs.Layout.{messageWidth}
-use Rattle.record.specs.Parts.{Message}
+use Rattle.messages.specs.Layout.{messageWidth}
+use Rattle.messages.specs.Parts.{Message}
 use Rattle.record.specs.Table.{Record, messageAt, messageIn, messages}
-use Rattle.record.specs.declared.parts.Account.{Account}
+use Rattle.messages.specs.declared.parts.Account.{Account}
 use Rattle.rules.specs.Codes.{Argument, Item, letter}
 use Rattle.rules.specs.Forged.{given, gives}
 use Rattle.rules.specs.Items.{eachArgument, placed, slipIn}
 use Rattle.rules.specs.Step.{argumentsOf, codeOf}
 use Rattle.arguments.proofs.Lowest.{tells}
 use Rattle.arguments.proofs.Places.{in-table}
-use Rattle.record.proofs.Picks.{no, yes}
+use Rattle.messages.proofs.Picks.{no, yes}
 use Rattle.arguments.proofs.Takes.{six, six-arguments}
 use Rattle.arguments.specs.Given.{foundIn}
 use Rattle.arguments.specs.Letters.{argumentLettered}

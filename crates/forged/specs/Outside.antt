@@ -3,16 +3,16 @@
 use mathlib.Core.Bool.{cond}
 use mathlib.Core.List.{List}
 use Prim.Native.Nat.{ℕ}
-use Rattle.record.specs.Layout.{Kind}
-use Rattle.record.specs.Parts.{Message, ownerOf}
+use Rattle.messages.specs.Layout.{Kind}
+use Rattle.messages.specs.Parts.{Message, ownerOf}
 use Rattle.record.specs.Table.{Record}
-use Rattle.record.specs.declared.parts.Account.{Account}
-use Rattle.record.specs.declared.parts.Buyer.{Buyer}
-use Rattle.record.specs.declared.parts.Drawn.{Drawn}
+use Rattle.messages.specs.declared.parts.Account.{Account}
+use Rattle.messages.specs.declared.parts.Buyer.{Buyer}
+use Rattle.messages.specs.declared.parts.Drawn.{Drawn}
 use Rattle.rules.specs.Codes.{Argument, Item, rowOf}
 use Rattle.rules.specs.Forged.{account, buyer, drawn, forged, given, gives, hashed, itemOr, mark, seller}
 use Rattle.rules.specs.Step.{argumentsOf, codeOf}
-use Rattle.forged.specs.declared.messages.Gathered.{Gathered}
+use Rattle.forged.specs.declared.added.Gathered.{Gathered}
 
 abbrev pub takenBy : List ℕ → List Argument
 takenBy s = rowOf (codeOf s) .takes

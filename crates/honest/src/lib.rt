@@ -1,3 +1,3 @@
 // The five honest steps: when each is allowed, and the message that it adds.
-pub mod conditions;
-pub mod messages;
+pub mod added;
+pub mod allowed;

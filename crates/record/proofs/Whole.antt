@@ -7,11 +7,11 @@ use native.Mathlib.Omega.{arith}
 use borrow.Author.Tests.{leb-true}
 use lib.Dec.{eqb, leb}
 use lib.ListN.{length}
-use Rattle.record.proofs.Chain.{left-of, right-of}
+use Rattle.messages.proofs.Chain.{left-of, right-of}
 use Rattle.record.specs.Lawful.{lawful}
-use Rattle.record.specs.Layout.{messageWidth}
+use Rattle.messages.specs.Layout.{messageWidth}
 use Rattle.record.specs.Table.{lawfulRecord, messages, mostRoom, roomOf, whole}
-use Rattle.record.specs.Tests.{all}
+use Rattle.messages.specs.Tests.{all}
 
 -- a whole table has room for at most 512
 pub most : (t : List ℕ) → whole t ≡ true → length t ≤ mostRoom * messageWidth

@@ -9,9 +9,9 @@ use borrow.Author.Tests.{le-leb, leb-true}
 use lib.Dec.{leb}
 use lib.ListN.{List·getD-map, drop, getD, getD-replicate, length, replicate, take}
 use lib.Seq.{getD-drop, getD-take}
-use Rattle.record.proofs.Chain.{left-of, right-of, skip}
-use Rattle.record.specs.Layout.{Kind, messageWidth}
-use Rattle.record.specs.Parts.{Message}
+use Rattle.messages.proofs.Chain.{left-of, right-of, skip}
+use Rattle.messages.specs.Layout.{Kind, messageWidth}
+use Rattle.messages.specs.Parts.{Message}
 use Rattle.record.specs.Table.{messages, roomOf}
 use Rattle.rules.specs.Codes.{Argument, Deed, Row, forges, row, rowOf, rows, starts}
 use Rattle.rules.specs.Honest.{Claim}

@@ -7,19 +7,19 @@ use native.Mathlib.Omega.{arith}
 use borrow.Author.Tests.{leb-true, ltb-true}
 use lib.Dec.{eqb, leb, ltb}
 use lib.ListN.{length}
-use Rattle.record.proofs.Chain.{left-of, right-of}
+use Rattle.messages.proofs.Chain.{left-of, right-of}
 use Rattle.record.proofs.Cut.{length-cut}
-use Rattle.record.specs.Layout.{messageWidth}
-use Rattle.record.specs.Parts.{Message}
+use Rattle.messages.specs.Layout.{messageWidth}
+use Rattle.messages.specs.Parts.{Message}
 use Rattle.record.specs.Lawful.{lawful}
 use Rattle.record.specs.Table.{lawfulRecord, messages, mostRoom, roomOf, whole, withMessage}
-use Rattle.record.specs.Tests.{all}
+use Rattle.messages.specs.Tests.{all}
 use Rattle.rules.specs.Codes.{known, rowOf}
 use Rattle.rules.specs.Honest.{holds}
 use Rattle.rules.specs.Items.{eachArgument, holding, inRange, placed}
 use Rattle.rules.specs.Step.{Outcome, accepted, added, argumentsOf, claims, codeOf, judge, judgeRow, judgeTable, numberOf, placeOf, refused}
 use Rattle.arguments.proofs.Lowest.{three}
-use Rattle.record.proofs.Picks.{no, yes}
+use Rattle.messages.proofs.Picks.{no, yes}
 use Rattle.step.specs.Answer.{Answered}
 use Rattle.step.specs.Draft.{DraftOf, Drafted}
 use Rattle.arguments.specs.Faults.{faults}

@@ -3,7 +3,7 @@ use arguments::codes::MOST_CODE;
 use crate::drafts::drafted;
 use arguments::faults::FINE;
 use arguments::faults::first_fault;
-use record::parts::Place;
+use messages::parts::Place;
 use record::table::is_lawful_record;
 use record::table::room;
 use record::table::write;

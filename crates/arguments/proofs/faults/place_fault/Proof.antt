@@ -4,8 +4,8 @@ use borrow.Author.Tests.{not-false, not-true}
 use mathlib.Core.Path.{_∙_, ap, refl, sym}
 use native.Mathlib.Omega.{arith}
 use Rattle.record.proofs.Cut.{message-at}
-use Rattle.record.proofs.Chain.{above, below, inside}
-use Rattle.record.proofs.Picks.{no, yes}
+use Rattle.messages.proofs.Chain.{above, below, inside}
+use Rattle.messages.proofs.Picks.{no, yes}
 use Rattle.arguments.specs.Letters.{argumentLettered, offers}
 use Rattle.arguments.proofs.faults.place_fault.Statement.{statement}
 use Rattle.arguments.proofs.faults.place_fault.Tie as tie

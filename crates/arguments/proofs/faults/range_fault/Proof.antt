@@ -1,7 +1,7 @@
 -- `arguments::faults::range_fault` meets its promise.
 use mathlib.Core.Path.{refl}
-use Rattle.record.proofs.Chain.{above, below, inside}
-use Rattle.record.proofs.Picks.{no, yes}
+use Rattle.messages.proofs.Chain.{above, below, inside}
+use Rattle.messages.proofs.Picks.{no, yes}
 use Rattle.arguments.proofs.faults.range_fault.Statement.{statement}
 use Rattle.arguments.proofs.faults.range_fault.Tie as tie
 

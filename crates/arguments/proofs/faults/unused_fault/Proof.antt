@@ -1,7 +1,7 @@
 -- `arguments::faults::unused_fault` meets its promise.
 use borrow.Author.Tests.{eq-eqb, ne-eqb}
 use mathlib.Core.Path.{refl}
-use Rattle.record.proofs.Picks.{no, yes}
+use Rattle.messages.proofs.Picks.{no, yes}
 use Rattle.arguments.proofs.faults.unused_fault.Statement.{statement}
 use Rattle.arguments.proofs.faults.unused_fault.Tie as tie
 

@@ -7,7 +7,7 @@ use mathlib.Core.Path.{_∙_, _≡_, refl, sym}
 use native.Mathlib.Omega.{arith}
 use Rattle.rules.specs.Codes.{Argument, letter, rowOf}
 use Rattle.rules.specs.Step.{argumentsOf, codeOf}
-use Rattle.record.proofs.Picks.{no, yes}
+use Rattle.messages.proofs.Picks.{no, yes}
 use Rattle.arguments.proofs.Takes.{find-from, find-over}
 use Rattle.arguments.specs.Given.{foundIn}
 use Rattle.arguments.proofs.given.find.Statement.{statement}

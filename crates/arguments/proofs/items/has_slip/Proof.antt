@@ -2,8 +2,8 @@
 use borrow.Author.Needs.{needs}
 use borrow.Author.Tests.{eq-eqb, ne-eqb}
 use mathlib.Core.Path.{_∙_, _≡_, ap, refl, sym}
-use Rattle.record.proofs.Chain.{last, skip, stop}
-use Rattle.record.proofs.Picks.{no, one, other, yes}
+use Rattle.messages.proofs.Chain.{last, skip, stop}
+use Rattle.messages.proofs.Picks.{no, one, other, yes}
 use Rattle.arguments.proofs.items.has_slip.Statement.{statement}
 use Rattle.arguments.proofs.items.has_slip.Tie as tie
 

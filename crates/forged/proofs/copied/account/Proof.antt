@@ -1,9 +1,9 @@
 -- `forged::copied::account` meets its promise.
 use borrow.Author.Needs.{needs}
 use mathlib.Core.Path.{_∙_, ap, refl}
-use Rattle.record.specs.Parts.{Message}
+use Rattle.messages.specs.Parts.{Message}
 use Rattle.record.specs.Table.{messages}
-use Rattle.record.specs.declared.parts.Slip.{Slip}
+use Rattle.messages.specs.declared.parts.Slip.{Slip}
 use Rattle.rules.specs.Codes.{Argument}
 use Rattle.rules.specs.Items.{slipIn}
 use Rattle.forged.proofs.Found.{account-copied, account-own, account-safe}

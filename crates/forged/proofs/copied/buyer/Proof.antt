@@ -4,7 +4,7 @@ use mathlib.Core.Path.{_∙_, ap, refl, sym}
 use Rattle.rules.specs.Codes.{Argument}
 use Rattle.rules.specs.Step.{argumentsOf}
 use Rattle.forged.proofs.Found.{found, found-number, lost}
-use Rattle.record.proofs.Picks.{no, yes}
+use Rattle.messages.proofs.Picks.{no, yes}
 use Rattle.forged.specs.Outside.{buyerIn, numberIn, takenBy}
 use Rattle.forged.proofs.copied.buyer.Statement.{statement}
 use Rattle.forged.proofs.copied.buyer.Tie as tie

@@ -8,7 +8,7 @@ use mathlib.Core.Path.{_∙_, _≡_, ap, refl, sym}
 use native.Mathlib.Nat.{le-of-eq}
 use native.Mathlib.Numerals.{add-one}
 use native.Mathlib.Omega.{arith}
-use Rattle.record.specs.Layout.{messageWidth}
+use Rattle.messages.specs.Layout.{messageWidth}
 use Rattle.record.proofs.table.write.Statement.{statement}
 use Rattle.record.proofs.table.write.Tie as tie
 

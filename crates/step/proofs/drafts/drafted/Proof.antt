@@ -6,7 +6,7 @@ use mathlib.Core.Logic.{⊎-elim}
 use mathlib.Core.Path.{_∙_, ap, refl, sym}
 use native.Mathlib.Omega.{arith}
 use Rattle.record.proofs.Cut.{length-cut}
-use Rattle.record.specs.Layout.{AuthRequest, AuthResponse, Initiate, Invoice, Payment, messageWidth}
+use Rattle.messages.specs.Layout.{AuthRequest, AuthResponse, Initiate, Invoice, Payment, messageWidth}
 use Rattle.rules.specs.Codes.{forges}
 use Rattle.rules.specs.Honest.{started}
 use Rattle.rules.specs.Step.{codeOf}

@@ -7,7 +7,7 @@ use native.Mathlib.Omega.{arith}
 use Rattle.record.specs.Table.{roomOf}
 use Rattle.rules.specs.Codes.{known}
 use Rattle.rules.specs.Step.{codeOf}
-use Rattle.record.proofs.Chain.{above, below, inside}
+use Rattle.messages.proofs.Chain.{above, below, inside}
 use Rattle.record.proofs.Whole.{most, under-most}
 use Rattle.step.proofs.Outcomes.{accepts, faulty, full, not-allowed, ready, refuses, taken, unknown}
 use Rattle.arguments.specs.Ready.{Known}
