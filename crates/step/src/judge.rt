@@ -1,6 +1,6 @@
 // One step: judged against a record that is known to be lawful, as in a run, and against any table, where refusal 1 comes first.
-use arguments::codes::MOST_CODE;
 use crate::drafts::drafted;
+use arguments::codes::MOST_CODE;
 use arguments::faults::FINE;
 use arguments::faults::first_fault;
 use messages::parts::Place;
