@@ -9,11 +9,11 @@ use lib.ListN.{List·getD-append, drop, getD, length, length-append, length-drop
 use lib.Seq.{drop-append-le, drop-at, take-append-le, take-at}
 use native.Mathlib.Nat.{suc-add, suc-mul, zero-add, zero-mul}
 use native.Mathlib.Omega.{arith}
-use Rattle.record.proofs.Chain.{left-of}
-use Rattle.record.proofs.Cut.{length-cut}
-use Rattle.record.specs.Layout.{messageWidth}
-use Rattle.record.specs.Parts.{Message}
-use Rattle.record.specs.Table.{Record, cut, messages, mostRoom, roomOf, whole}
+use Rattle.messages.proofs.Chain.{left-of}
+use Rattle.record.proofs.Cut.{cut-append, length-cut}
+use Rattle.messages.specs.Layout.{messageWidth}
+use Rattle.messages.specs.Parts.{Message}
+use Rattle.record.specs.Table.{Record, cut, flat, messages, mostRoom, roomOf, whole}
 use Rattle.rules.proofs.Gates.{Open, all-open, passes}
 use Rattle.rules.proofs.Laid.{full-length}
 use Rattle.rules.proofs.LawfulReached.{reached-room, step-as-run, table-lawful}
@@ -26,7 +26,7 @@ use Rattle.rules.specs.Agreed.{HouseReplyAt, Reported, _∈_}
 use Rattle.rules.specs.Promised.{Kept, sessionAfter}
 use Rattle.rules.specs.Reached.{HoldsReached, Reached}
 use Rattle.rules.specs.Report.{houseReply, replyMark, report}
-use Rattle.rules.specs.Run.{Ran, flat, over, played, run, runGates, runPlayed, runRefused, stepCount, stepWidth, stepsOf, verdicts, wholeSteps}
+use Rattle.rules.specs.Run.{Ran, over, played, run, runGates, runPlayed, runRefused, stepCount, stepWidth, stepsOf, verdicts, wholeSteps}
 use Rattle.rules.specs.Session.{R2, R3, R4, R5, R6, Setting, place5, sessionReply, sessionSteps, step1, step2, step3, step4, step5}
 use Rattle.rules.specs.Step.{Step, judge, numberOf, recordAfter}
 use Rattle.rules.specs.Theorems.{RunKeeps, RunPrefixes}
@@ -52,16 +52,6 @@ cut-flat (x ∷ R) rest h =
   where
     l : length x ≡ messageWidth
     l = h x (List·Memᴰ·head refl)
-
--- a list that is continued has the same first pieces
-cut-append : (w n m : ℕ) (xs ys : List ℕ) → length xs ≡ n * w → cut w (n + m) (xs ++ ys) ≡ cut w n xs ++ cut w m ys
-cut-append w zero m [] ys e = ap (λ (k : ℕ). cut w k ys) (zero-add m)
-cut-append w zero m (x ∷ xs) ys e = absurd (omega (arith, zero-mul w))
-cut-append w (suc n) m xs ys e =
-    let most : w ≤ length xs = omega (arith, suc-mul n w) in
-    ap (λ (k : ℕ). cut w k (xs ++ ys)) (suc-add n m)
-    ∙ ap₂ _∷_ (take-append-le w xs ys most)
-    (ap (cut w (n + m)) (drop-append-le w xs ys most) ∙ cut-append w n m (drop w xs) ys (length-drop w xs ∙ omega (arith, suc-mul n w)))
 
 steps-append : (xs ys : List ℕ) → wholeSteps xs ≡ true → stepsOf (xs ++ ys) ≡ stepsOf xs ++ stepsOf ys
 steps-append xs ys e =

@@ -4,9 +4,9 @@ use Prim.Native.Nat.{ℕ, suc}
 use mathlib.Core.Bool.{Bool, _&&_, cond}
 use mathlib.Core.List.{List, [], _∷_, _++_, map}
 use lib.ListN.{length, take}
-use Rattle.record.specs.Layout.{filled}
+use Rattle.messages.specs.Layout.{filled}
 use Rattle.record.specs.Table.{Record}
-use Rattle.record.specs.Tests.{all, same}
+use Rattle.messages.specs.Tests.{all, same}
 use Rattle.rules.specs.Report.{houseReply, replyMark, reportOn}
 use Rattle.rules.specs.Run.{played, stepWidth}
 use Rattle.rules.specs.Step.{Step, judge, numberOf, placeOf, recordAfter}
