@@ -1,5 +1,5 @@
 #!/usr/bin/env bash
-# benchmark.sh [REPEATS]: times the proved engine beside the independent program, both built for release, in one process. The static
+# benchmark.sh [REPEATS [WORD]]: times the proved engine beside the independent program, both built for release, in one process. The static
 # library is built first if it is not there or older than the crates. No part of the gate: a time depends on the machine.
 set -eu
 cd "$(dirname "$0")/.."

@@ -2,7 +2,8 @@
 //! program: runs of 1,024 steps, one step on a full record and one report on
 //! it, in one process and on the same inputs.
 //!
-//! `benchmark [REPEATS]`. In each repeat both sides are called once, each on
+//! `benchmark [REPEATS [WORD]]`: only what has the word in its name, if one is
+//! given. In each repeat both sides are called once, each on
 //! tables of its own, and the side that begins changes from one repeat to the
 //! next, so that a drift of the machine meets both. Before each call, outside
 //! the timed part, the tables are set back to what they were: zeros for a run.
@@ -273,17 +274,20 @@ fn print_heading() {
     println!("{:21} |{names} |{names} |{names}", "");
 }
 
+/// How often, and the word.
+fn arguments() -> Option<(usize, String)> {
+    let mut args = env::args().skip(1);
+    let repeats = args.next().map_or(Some(REPEATS), |word| word.parse().ok())?;
+    Some((repeats, args.next().unwrap_or_default()))
+}
+
 fn main() {
-    let repeats = match env::args().nth(1).map(|word| word.parse()) {
-        None => REPEATS,
-        Some(Ok(repeats)) if repeats > 0 => repeats,
-        _ => {
-            eprintln!("benchmark [REPEATS]");
-            process::exit(2);
-        }
+    let Some((repeats @ 1.., word)) = arguments() else {
+        eprintln!("benchmark [REPEATS [WORD]]");
+        process::exit(2);
     };
     let cases = cases();
     println!("\n{repeats} repeats; microseconds a call; tables set back before each, not timed\n");
     print_heading();
-    cases.iter().for_each(|case| measure(case, repeats));
+    cases.iter().filter(|case| case.name.contains(&word)).for_each(|case| measure(case, repeats));
 }
