@@ -3,12 +3,12 @@
 //! it, in one process and on the same inputs.
 //!
 //! `benchmark [REPEATS [WORD]]`: only what has the word in its name, if one is
-//! given. In each repeat both sides are called once, each on
-//! tables of its own, and the side that begins changes from one repeat to the
-//! next, so that a drift of the machine meets both. Before each call, outside
-//! the timed part, the tables are set back to what they were: zeros for a run.
-//! After each pair the answers and all tables must be equal; if not, the
-//! exit status is 1. The ratio is taken pair by pair.
+//! given. In each repeat both sides are called once, each on tables of its
+//! own, and the side that begins changes from one repeat to the next, so that
+//! a drift of the machine meets both. So does the depth of the stack. Before
+//! each call, outside the timed part, the tables are set back to what they
+//! were: zeros for a run. After each pair the answers and all tables must be
+//! equal; if not, the exit status is 1. The ratio is taken pair by pair.
 
 #[path = "../inputs/dice.rs"]
 mod dice;
@@ -28,6 +28,8 @@ use std::{env, process};
 const REPEATS: usize = 5_000;
 /// Pairs that are not counted, while caches and the processor settle.
 const WARM_UP: usize = 200;
+/// Depths of the stack, from which calls are made in turn.
+const DEPTHS: usize = 101;
 const ANSWERS: u16 = 0x5555;
 /// What is shown of a spread.
 const PERCENTS: [usize; 5] = [50, 25, 75, 5, 95];
@@ -227,6 +229,18 @@ fn timed(call: &Call, before: &Tables, lent: &mut Tables) -> (f64, Answer) {
     (start.elapsed().as_secs_f64() * 1e6, answer)
 }
 
+/// Calls from this many frames deeper. A store across the border of a page is
+/// slow, so it matters where the frames lie, and one depth would show one case.
+#[inline(never)]
+fn from_depth(depth: usize, call: &mut dyn FnMut()) {
+    let frame = black_box([0u8; 64]);
+    match depth {
+        0 => call(),
+        _ => from_depth(depth - 1, call),
+    }
+    black_box(&frame);
+}
+
 /// The times of both sides in one repeat.
 fn pair(case: &Case, lent: &mut [Tables; 2], engine_first: bool) -> [f64; 2] {
     let [to_engine, to_own] = lent;
@@ -255,8 +269,11 @@ fn spread(mut values: Vec<f64>) -> [f64; 5] {
 
 fn measure(case: &Case, repeats: usize) {
     let mut lent = [case.before.clone(), case.before.clone()];
-    let times: Vec<[f64; 2]> =
-        (0..WARM_UP + repeats).map(|i| pair(case, &mut lent, i % 2 == 0)).skip(WARM_UP).collect();
+    let mut times = Vec::with_capacity(WARM_UP + repeats);
+    for i in 0..WARM_UP + repeats {
+        from_depth(i % DEPTHS, &mut || times.push(pair(case, &mut lent, i % 2 == 0)));
+    }
+    let times = &times[WARM_UP..];
     let columns = [
         spread(times.iter().map(|&[engine, _]| engine).collect()),
         spread(times.iter().map(|&[_, own]| own).collect()),
