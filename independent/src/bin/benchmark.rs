@@ -5,10 +5,10 @@
 //! `benchmark [REPEATS [WORD]]`: only what has the word in its name, if one is
 //! given. In each repeat both sides are called once, each on tables of its
 //! own, and the side that begins changes from one repeat to the next, so that
-//! a drift of the machine meets both. So does the depth of the stack. Before
-//! each call, outside the timed part, the tables are set back to what they
-//! were: zeros for a run. After each pair the answers and all tables must be
-//! equal; if not, the exit status is 1. The ratio is taken pair by pair.
+//! a drift of the machine meets both. The depth of the stack changes too.
+//! Before each call, outside the timed part, the tables are set back to what
+//! they were: zeros for a run. After each pair the answers and all tables must
+//! be equal; if not, the exit status is 1. The ratio is taken pair by pair.
 
 #[path = "../inputs/dice.rs"]
 mod dice;
