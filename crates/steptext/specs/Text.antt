@@ -1,5 +1,5 @@
 -- Step text on lists of bytes: the lines of a text, the numbers of a line, and which lines document 01 calls readable.
-use Prim.Native.Nat.{ℕ, _*_, _+_, _-_}
+use Prim.Native.Nat.{ℕ, suc, _*_, _+_, _-_}
 use mathlib.Core.Bool.{Bool, _&&_, _||_, cond, not}
 use mathlib.Core.List.{List, [], _∷_, _++_, map}
 use lib.Dec.{eqb, leb}
@@ -24,6 +24,11 @@ digit0 = 48
 
 abbrev pub letterA : ℕ
 letterA = 65
+
+-- how many bytes stand before the first of a kind
+abbrev pub before : ℕ → Text → ℕ
+before kind [] = 0
+before kind (x ∷ xs) = cond (eqb x kind) 0 (suc (before kind xs))
 
 -- a byte more in front of the first of these texts
 abbrev pub onto : ℕ → List Text → List Text
@@ -62,14 +67,12 @@ mostDigits = 5
 abbrev pub mostNumber : ℕ
 mostNumber = 65535
 
+abbrev pub noNeedless0 : Text → Bool
+noNeedless0 xs = eqb (length xs) 1 || not (eqb (getD xs 0 0) digit0)
+
 unfoldable pub isNumber : Text → Bool
 isNumber xs =
-    every
-    (all isDigit xs
-    ∷ between 1 (length xs) mostDigits
-    ∷ (eqb (length xs) 1 || not (eqb (getD xs 0 0) digit0))
-    ∷ leb (valueOf xs) mostNumber
-    ∷ [])
+    every (between 1 (length xs) mostDigits ∷ noNeedless0 xs ∷ all isDigit xs ∷ leb (valueOf xs) mostNumber ∷ [])
 
 -- a line is its body and a line feed
 abbrev pub body : Text → Text

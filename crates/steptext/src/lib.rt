@@ -1,1 +1,4 @@
-// Step text: the lines of a text, and the steps that they say.
+// Step text: the lines of a text, the numbers of a line, and the steps that they say.
+pub mod bytes;
+pub mod lines;
+pub mod numbers;

@@ -1,0 +1,70 @@
+-- Loops over the bytes of a text: where the next byte of a kind stands, and what the digits of a number come to.
+use mathlib.Core.Bool.{Bool, true, false, _&&_}
+use mathlib.Core.List.{List, [], _∷_, _++_}
+use mathlib.Core.Path.{_≡_, _∙_, refl, sym, ap, subst}
+use Prim.Native.Nat.{ℕ, zero, suc, _+_, _*_, _-_, _^_, _≤_, _<_}
+use borrow.Author.Tests.{eq-eqb, leb-true, ne-eqb}
+use native.Mathlib.Nat.{add-zero}
+use native.Mathlib.Numerals.{add-one}
+use native.Mathlib.Omega.{arith}
+use lib.Dec.{eqb, leb}
+use lib.ListN.{drop, drop-of-length-le, getD, length}
+use lib.Seq.{drop-cons}
+use Rattle.record.proofs.Chain.{right-of, skip}
+use Rattle.record.specs.Lawful.{between}
+use Rattle.record.specs.Tests.{all}
+use Rattle.steptext.specs.Text.{Text, before, digit0, isDigit, valueFrom, valueOf}
+
+-- the byte at a position is the first of what follows it
+pub from : (t : Text) (i : ℕ) → i < length t → drop i t ≡ getD t i 0 ∷ drop (i + 1) t
+from t i h = drop-cons t i 0 h ∙ ap (λ (k : ℕ). getD t i 0 ∷ drop k t) (sym (add-one i))
+
+pub stands-here : (kind : ℕ) (t : Text) (i : ℕ) → i < length t → getD t i 0 ≡ kind → before kind (drop i t) ≡ 0
+stands-here kind t i h e = ap (before kind) (from t i h) ∙ simp (eq-eqb _ _ e)
+
+pub stands-later : (kind : ℕ) (t : Text) (i : ℕ) → i < length t → (getD t i 0 ≡ kind → ⊥)
+    → before kind (drop i t) ≡ suc (before kind (drop (i + 1) t))
+stands-later kind t i h e = ap (before kind) (from t i h) ∙ simp (ne-eqb _ _ e)
+
+pub stands-nowhere : (kind : ℕ) (t : Text) (i : ℕ) → length t ≤ i → before kind (drop i t) ≡ 0
+stands-nowhere kind t i h = ap (before kind) (drop-of-length-le t {i = i} h)
+
+-- some digits are read, of which the sum has come
+pub record Reading (xs : Text) (sum i : ℕ) : Type 0 where
+  pub upto : i ≤ length xs
+  pub digits : all isDigit (drop i xs) ≡ all isDigit xs
+  pub finish : valueFrom sum (drop i xs) ≡ valueOf xs
+  pub small : sum < 10 ^ i
+
+pub begin : (xs : Text) → Reading xs 0 0
+begin xs = record { upto = omega arith; digits = refl; finish = refl; small = omega arith }
+
+-- at most five digits
+pub bounded : (i sum : ℕ) → i < 5 → sum < 10 ^ i → sum < 10000
+bounded zero sum h k = omega arith
+bounded (suc zero) sum h k = omega arith
+bounded (suc (suc zero)) sum h k = omega arith
+bounded (suc (suc (suc zero))) sum h k = omega arith
+bounded (suc (suc (suc (suc zero)))) sum h k = omega arith
+bounded (suc (suc (suc (suc (suc i))))) sum h k = absurd (omega arith)
+
+at-most-9 : (x : ℕ) → isDigit x ≡ true → x - digit0 ≤ 9
+at-most-9 x d = let e = leb-true x (digit0 + 9) (right-of (leb digit0 x) (leb x (digit0 + 9)) d) in omega arith
+
+grows : (i sum d : ℕ) → sum < 10 ^ i → d ≤ 9 → sum * 10 + d < 10 ^ (i + 1)
+grows i sum d h k = subst (λ (p : ℕ). sum * 10 + d < p) (sym (ap (λ (j : ℕ). 10 ^ j) (add-one i))) (omega arith)
+
+module _ (xs : Text) (sum i : ℕ) (reading : Reading xs sum i) (more : i < length xs) where
+  -- a digit, and those after it
+  pub split-digits : (isDigit (getD xs i 0) && all isDigit (drop (i + 1) xs)) ≡ all isDigit xs
+  split-digits = ap (all isDigit) (sym (from xs i more)) ∙ reading .digits
+
+  pub turn : between digit0 (getD xs i 0) (digit0 + 9) ≡ true → Reading xs (sum * 10 + (getD xs i 0 - digit0)) (i + 1)
+  turn d =
+      let x : ℕ = getD xs i 0 in
+      record {
+        upto = omega arith;
+        digits = skip d refl ∙ split-digits;
+        finish = ap (valueFrom sum) (sym (from xs i more)) ∙ reading .finish;
+        small = grows i sum (x - digit0) (reading .small) (at-most-9 x d);
+      }

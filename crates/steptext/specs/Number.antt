@@ -1,0 +1,8 @@
+-- The number that a text says, as the code's enum.
+use mathlib.Core.Bool.{cond}
+use Rattle.steptext.specs.Text.{Text, isNumber, valueOf}
+use Rattle.steptext.specs.declared.numbers.Number.{Number}
+use Rattle.steptext.specs.declared.numbers.Number.the-variants.{Is, Unreadable}
+
+abbrev pub numberIn : Text → Number
+numberIn xs = cond (isNumber xs) (Is (valueOf xs)) Unreadable
