@@ -8,8 +8,9 @@ use borrow.Author.Tests.{eq-eqb, le-leb, le-ltb, lt-ltb, ltb-false, ltb-true, ne
 use lib.Dec.{eqb, leb, ltb}
 use lib.ListN.{getD, length, length-append, List·getD-append}
 use Rattle.record.proofs.Chain.{last, left-of, right-of, skip}
+use Rattle.record.specs.Lawful.{between}
 use Rattle.record.specs.Tests.{all}
-use Rattle.steptext.specs.Text.{Text, digit0, isDigit, isNumber, mostDigits, mostNumber, valueFrom, valueOf}
+use Rattle.steptext.specs.Text.{Text, digit0, isDigit, isNumber, mostDigits, mostNumber, noNeedless0, valueFrom, valueOf}
 use Rattle.results.specs.Decimal.{ReadsBack, decimal, digits}
 
 -- 10 to a power
@@ -123,11 +124,11 @@ first (suc f) n l h =
         ap (λ (d : ℕ). eqb d digit0) (List·getD-append xs (lastDigit n ∷ []) 0 0 (k (omega arith))) ∙ e (omega arith)
 
 -- either one digit, or the first is no 0
-no-needless : (n : ℕ) → n ≤ mostNumber → (eqb (length (decimal n)) 1 || not (eqb (getD (decimal n) 0 0) digit0)) ≡ true
+no-needless : (n : ℕ) → n ≤ mostNumber → noNeedless0 (decimal n) ≡ true
 unfolding tens
 no-needless n l = by (ltb n 10) (size n)
   where
-    by : (b : Bool) → Size n b → (eqb (length (decimal n)) 1 || not (eqb (getD (decimal n) 0 0) digit0)) ≡ true
+    by : (b : Bool) → Size n b → noNeedless0 (decimal n) ≡ true
     by true (single s) =
         ap (λ (b : Bool). b || not (eqb (getD (decimal n) 0 0) digit0)) (eq-eqb (length (decimal n)) 1 (ap length (decimal-one n s)))
     by false (several s) =
@@ -136,10 +137,8 @@ no-needless n l = by (ltb n 10) (size n)
 pub reads-back : ReadsBack
 unfolding isNumber tens
 reads-back n l =
-    let v : valueOf (decimal n) ≡ n = value mostDigits n (omega arith) in (
-      sym
-          (skip (all-digits mostDigits n)
-          (skip (sym (skip (le-leb 1 (length (decimal n)) (some mostDigits n (omega arith))) (sym (le-leb (length (decimal n)) mostDigits (short mostDigits n)))))
-          (skip (no-needless n l) (last (sym (le-leb (valueOf (decimal n)) mostNumber (omega arith))))))),
-      v,
-    )
+    let text = decimal n in
+    let v : valueOf text ≡ n = value mostDigits n (omega arith) in
+    let long : between 1 (length text) mostDigits ≡ true =
+    sym (skip (le-leb 1 (length text) (some mostDigits n (omega arith))) (sym (le-leb (length text) mostDigits (short mostDigits n)))) in
+    (sym (skip long (skip (no-needless n l) (skip (all-digits mostDigits n) (last (sym (le-leb (valueOf text) mostNumber (omega arith))))))), v)

@@ -88,12 +88,12 @@ pub record Going (before : List ℕ) (p : ℕ) (all : Text) (most : ℕ) (now : 
 pub begin : (before : List ℕ) (p : ℕ) (all : Text) → Going before p all 0 before p all
 begin before p all = record { done = []; put = none before p 0; whole = refl }
 
-pub turn : {before now next : List ℕ} {p r s most k : ℕ} {all rest bs : Text} (rest′ : Text) → r ≤ length before → Going before p all most now r rest
-    → rest ≡ bs ++ rest′ → Put now r bs k next s → Going before p all (most + k) next s rest′
-turn {bs = bs} rest′ fits going split put =
+pub turn : {before now next : List ℕ} {p r s most k : ℕ} {all rest bs : Text} (rest′ : Text) (most′ : ℕ) → r ≤ length before
+    → Going before p all most now r rest → rest ≡ bs ++ rest′ → Put now r bs k next s → s ≤ p + most′ → Going before p all most′ next s rest′
+turn {bs = bs} rest′ most′ fits going split put h =
     record {
       done = going .done ++ bs;
-      put = then fits (going .put) put;
+      put = bounded most′ (then fits (going .put) put) h;
       whole = append-assoc (going .done) bs rest′ ∙ ap (λ (x : Text). going .done ++ x) (sym split) ∙ going .whole;
     }
 

@@ -1,3 +1,4 @@
 // Results as text: a line for each step and for each house reply, or one line for a refused text, written into bytes that are lent.
 pub mod lines;
 pub mod put;
+pub mod rows;

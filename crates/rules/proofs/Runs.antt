@@ -121,7 +121,7 @@ module _ (answers : ℕ) (t xs bytes : List ℕ) where
   flat-room : length (flat R) ≤ length t
   flat-room = omega (arith, flat-length R full, reached-room answers (roomOf t) R reached)
 
-  left-is : messages (length R) (over (flat R) t) ≡ R
+  pub left-is : messages (length R) (over (flat R) t) ≡ R
   left-is = cut-flat R (drop (length (flat R)) t) full
 
   same-length : length (over (flat R) t) ≡ length t

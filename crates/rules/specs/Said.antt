@@ -17,12 +17,12 @@ stepRows answers room told R (s ∷ ss) =
     ((told + 1) ∷ numberOf (judge answers room R s) ∷ placeOf (length R) (judge answers room R s) ∷ [])
     ∷ stepRows answers room (told + 1) (recordAfter R (judge answers room R s)) ss
 
--- of a reply for the payment of this mark: place, seller, buyer, report; `p` messages stand earlier in the record R
+-- of a reply for the payment of this mark, with `p` messages earlier: place, seller, buyer, report
 abbrev pub replyRow : Record → ℕ → Mark → List ℕ
-replyRow R p x = (p + 1) ∷ x .seller .0 ∷ x .buyer .0 ∷ reportOn (take p R) x ∷ []
+replyRow earlier p x = (p + 1) ∷ x .seller .0 ∷ x .buyer .0 ∷ reportOn earlier x ∷ []
 
--- of each house reply of R from its place p + 1 on
+-- of each house reply of the record R from its place p + 1 on
 unfoldable pub replyRows : Record → ℕ → List Message → List (List ℕ)
 replyRows R p [] = []
 replyRows R p (x ∷ xs) =
-    cond (houseReply x) (replyRow R p (replyMark x) ∷ replyRows R (p + 1) xs) (replyRows R (p + 1) xs)
+    cond (houseReply x) (replyRow (take p R) p (replyMark x) ∷ replyRows R (p + 1) xs) (replyRows R (p + 1) xs)
