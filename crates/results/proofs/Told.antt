@@ -15,7 +15,9 @@ use Rattle.record.specs.Layout.{messageWidth}
 use Rattle.record.specs.Parts.{Message}
 use Rattle.record.specs.Table.{Record, messageIn, messages}
 use Rattle.rules.proofs.Accepted.{never-zero}
-use Rattle.rules.specs.Report.{houseReply, replyMark}
+use Rattle.record.specs.declared.signed.ReplySigned.{ReplySigned}
+use Rattle.rules.specs.Items.{replySignedIn}
+use Rattle.rules.specs.Report.{houseReply, replyMark, reportOn}
 use Rattle.rules.specs.Run.{verdicts}
 use Rattle.rules.specs.Said.{replyRow, replyRows, stepRows}
 use Rattle.rules.specs.Step.{Outcome, Step, accepted, judge, numberOf, placeOf, recordAfter, refused}
@@ -77,6 +79,22 @@ picked : (b : Bool) (row : List ℕ) (rows : List (List ℕ))
     → linesOf replyLine (cond b (row ∷ rows) rows) ≡ cond b (replyLine row) [] ++ linesOf replyLine rows
 picked true row rows = refl
 picked false row rows = refl
+
+-- the line of the message x after the first p of a table
+module _ (t : List ℕ) (p : ℕ) {x : Message} (named : x ≡ messageIn t (record { 0 = p + 1 })) where
+  pub no-line : houseReply x ≡ false → [] ≡ lineAfter t p
+  unfolding lineIf
+  no-line e =
+      ap (λ (b : Bool). cond b (replyLine (replyRow (messages p t) p (replyMark x))) []) (sym e) ∙ ap (lineIf (messages p t) p) named
+
+  pub its-line : (signed : ReplySigned) {report : ℕ} → houseReply x ≡ true → signed ≡ replySignedIn x → report ≡ reportOn (messages p t) (signed .mark)
+      → replyLine ((p + 1) ∷ signed .mark .seller .0 ∷ signed .mark .buyer .0 ∷ report ∷ []) ≡ lineAfter t p
+  unfolding lineIf
+  its-line signed e s r =
+      ap (λ (k : ℕ). replyLine ((p + 1) ∷ signed .mark .seller .0 ∷ signed .mark .buyer .0 ∷ k ∷ [])) r
+      ∙ ap (λ (z : ReplySigned). replyLine (replyRow (messages p t) p (z .mark))) s
+      ∙ ap (λ (b : Bool). cond b (replyLine (replyRow (messages p t) p (replyMark x))) []) (sym e)
+      ∙ ap (lineIf (messages p t) p) named
 
 pub replies-from : (t : List ℕ) (n p : ℕ) → p < n
     → linesOf replyLine (replyRows (messages n t) p (drop p (messages n t)))

@@ -1,3 +1,12 @@
+use Rattle.steptext.specs.Text.{Text}
+use Rattle.results.specs.Rows.{replyWidest}
+use Rattle.results.specs.Put.{Put}
+use Rattle.results.proofs.Writing.{none}
+use Rattle.results.proofs.Told.{its-line, no-line}
+use Prim.Native.Nat.{ℕ}
+use mathlib.Core.List.{List}
+use borrow.Author.Tests.{not-false, not-true}
+use mathlib.Core.Path.{_∙_, _≡_, subst, sym}
 use borrow.Author.Needs.{needs}
 use Rattle.results.proofs.rows.put_reply.Statement.{statement}
 use Rattle.results.proofs.rows.put_reply.Tie as tie
@@ -23,7 +32,7 @@ is-house-reply-requires c κs = search needs
 
 -- src/rows.rt:63:9
 returns : tie.Need-returns
-returns c = ?
+returns c = let the-args = c .before .before .before .before .before .args in subst (λ (bs : Text). Put (the-args .out .now) (the-args .at) bs replyWidest (the-args .out .now) (the-args .at)) (no-line (the-args .t .now) (the-args .p) (c .before .before .message .ensures .0) (sym (c .before .is-house-reply .ensures) ∙ not-true _ (c .if1 .taken))) (none (the-args .out .now) (the-args .at) replyWidest)
 
 -- src/rows.rt:65:9
 reply-signed-at-requires : tie.Need-reply-signed-at-requires
@@ -51,7 +60,7 @@ same-length c = search needs
 
 -- src/rows.rt:56:1
 returns-2 : tie.Need-returns-2
-returns-2 c = ?
+returns-2 c = let the-args = c .before .before .before .before .before .before .before .before .before .before .before .args in let the-put = c .before .before .put-reply-line in subst (λ (bs : Text). Put (the-args .out .now) (the-args .at) bs replyWidest (the-put .last .0) (the-put .result)) (its-line (the-args .t .now) (the-args .p) (c .before .before .before .before .before .before .before .before .message .ensures .0) (c .before .before .before .before .before .reply-signed-at .result) (sym (c .before .before .before .before .before .before .before .is-house-reply .ensures) ∙ not-false _ (c .before .before .before .before .before .before .if1 .left)) (c .before .before .before .before .before .reply-signed-at .ensures) (c .before .before .before .before .report-on .ensures)) (the-put .ensures)
 
 pub put-reply-spec : {M : Type 1} → statement M
 put-reply-spec =
