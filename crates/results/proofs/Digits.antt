@@ -1,11 +1,11 @@
 -- The text of a number: how long it is, how it goes on from that of a tenth, and that it reads back.
-use mathlib.Core.Bool.{Bool, true, false, not, cond, _&&_, _||_, or-true}
-use mathlib.Core.List.{List, [], _∷_, _++_}
-use mathlib.Core.Path.{_≡_, _∙_, refl, sym, ap, ap₂}
+use mathlib.Core.Bool.{Bool, true, false, not, cond, _||_, or-true}
+use mathlib.Core.List.{[], _∷_, _++_}
+use mathlib.Core.Path.{_≡_, _∙_, refl, sym, ap}
 use Prim.Native.Nat.{ℕ, zero, suc, _+_, _*_, _-_, _/_, _%_, _≤_, _<_}
 use native.Mathlib.Omega.{arith}
 use borrow.Author.Tests.{eq-eqb, le-leb, le-ltb, lt-ltb, ltb-false, ltb-true, ne-eqb}
-use lib.Dec.{eqb, leb, ltb}
+use lib.Dec.{eqb, ltb}
 use lib.ListN.{getD, length, length-append, List·getD-append}
 use Rattle.record.proofs.Chain.{last, left-of, right-of, skip}
 use Rattle.record.specs.Lawful.{between}

@@ -1,3 +1,4 @@
 pub mod Digits
+pub mod Playing
 pub mod Told
 pub mod Writing

@@ -3,7 +3,7 @@
 use mathlib.Core.Bool.{Bool, true, false, cond}
 use mathlib.Core.List.{List, [], _∷_, _++_}
 use mathlib.Core.Path.{_≡_, _∙_, refl, sym, ap, ap₂, subst}
-use Prim.Native.Nat.{ℕ, zero, suc, _+_, _*_, _-_, _≤_, _<_}
+use Prim.Native.Nat.{ℕ, _+_, _*_, _-_, _≤_, _<_}
 use native.Mathlib.Numerals.{add-one}
 use native.Mathlib.Omega.{arith}
 use borrow.Author.Tests.{eq-eqb, ne-eqb}
@@ -22,7 +22,6 @@ use Rattle.rules.specs.Run.{verdicts}
 use Rattle.rules.specs.Said.{replyRow, replyRows, stepRows}
 use Rattle.rules.specs.Step.{Outcome, Step, accepted, judge, numberOf, placeOf, recordAfter, refused}
 use Rattle.runs.proofs.Standing.{take-messages}
-use Rattle.steptext.specs.Text.{Text}
 use Rattle.results.specs.Printed.{linesOf, replyLine, stepLine}
 use Rattle.results.specs.Rows.{countBy, lineAfter, lineIf, placeBy, rowsBy}
 

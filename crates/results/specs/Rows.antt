@@ -1,7 +1,7 @@
 -- The lines of a list that was played, as the code comes by them: of the steps by their numbers alone, of a reply by its place in the table.
 use Prim.Native.Nat.{ℕ, _+_, _*_}
 use mathlib.Core.Bool.{cond}
-use mathlib.Core.List.{List, [], _∷_, _++_}
+use mathlib.Core.List.{List, [], _∷_}
 use lib.Dec.{eqb}
 use Rattle.record.specs.Parts.{Message}
 use Rattle.record.specs.Table.{Record, messageIn, messages, mostRoom}

@@ -3,6 +3,7 @@ pub mod Agreement
 pub mod Arguments
 pub mod Claims
 pub mod Deeds
+pub mod Flat
 pub mod Gates
 pub mod Laid
 pub mod LawfulReached
