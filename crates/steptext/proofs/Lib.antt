@@ -1,3 +1,4 @@
 pub mod Values
 pub mod Parted
+pub mod Said
 pub mod Scans

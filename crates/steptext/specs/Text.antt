@@ -1,7 +1,7 @@
 -- Step text on lists of bytes: the lines of a text, the numbers of a line, and which lines document 01 calls readable.
 use Prim.Native.Nat.{ℕ, suc, _*_, _+_, _-_}
 use mathlib.Core.Bool.{Bool, _&&_, _||_, cond, not}
-use mathlib.Core.List.{List, [], _∷_, _++_, map}
+use mathlib.Core.List.{List, [], _∷_, map}
 use lib.Dec.{eqb, leb}
 use lib.ListN.{drop, getD, length, take}
 use Rattle.record.specs.Lawful.{between}
@@ -74,12 +74,12 @@ unfoldable pub isNumber : Text → Bool
 isNumber xs =
     every (between 1 (length xs) mostDigits ∷ noNeedless0 xs ∷ all isDigit xs ∷ leb (valueOf xs) mostNumber ∷ [])
 
--- a line is its body and a line feed
+-- a line is a body and a line feed
 abbrev pub body : Text → Text
 body l = take (length l - 1) l
 
 abbrev pub isEnded : Text → Bool
-isEnded l = same l (body l ++ lineFeed ∷ [])
+isEnded l = eqb (getD l (length l - 1) 0) lineFeed
 
 -- line 1: `A`, tab, account answers
 abbrev pub answersStart : Text

@@ -2,3 +2,4 @@
 pub mod bytes;
 pub mod lines;
 pub mod numbers;
+pub mod says;
