@@ -1,152 +1,66 @@
+-- `results::put::put_number` meets its promise. What is left of the number falls at each call.
 use Prim.Native.Nat.{ℕ, _<_}
-use borrow.Author.Needs.{needs}
-use native.Mathlib.Omega.{arith}
 use borrow.Fn.Kinds.{In}
-use borrow.Fn.PlainCycle.{Measures, is, falls, and}
+use borrow.Fn.PlainCycle.{Measures, and, falls, is}
+use native.Mathlib.Omega.{arith}
 use Rattle.results.proofs.Digits.{decimal-longer, some}
 use Rattle.results.proofs.Writing.{number-more, number-one}
 use Rattle.steptext.specs.Text.{mostDigits}
-use Rattle.results.proofs.put.put_number.Reads as put-number
-use Rattle.results.proofs.put.put_number.Kinds as put-number-kinds
-use Rattle.results.proofs.put.+put_number.Lts-put_number as put-number-lts
 use Rattle.results.proofs.put.put_byte.Reads as put-byte-reads
-use Rattle.results.proofs.put.+put_number.{statement}
+use Rattle.results.proofs.put.put_number.Kinds as put-number-kinds
+use Rattle.results.proofs.put.put_number.Reads as put-number
+use Rattle.results.proofs.put.+put_number.Lts-put_number as lts
 use Rattle.results.proofs.put.+put_number.Tie.{close}
+use Rattle.results.proofs.put.+put_number.{statement}
 
-abbrev μ-put-number : Measures 1 put-number-kinds.ps ℕ
-μ-put-number κs a = a .1 .1 .0
+abbrev μ : Measures 1 put-number-kinds.ps ℕ
+μ κs a = a .1 .1 .0
 
-abbrev put-number-at : ℕ → In 1 put-number-kinds.ps
-put-number-at t =
-    and 1 put-number-kinds.ps (is 1 put-number-kinds.ps μ-put-number t) put-number.Pre
+-- what is given at the measure t, and what a call asks below it
+abbrev at : ℕ → In 1 put-number-kinds.ps
+at t = and 1 put-number-kinds.ps (is 1 put-number-kinds.ps μ t) put-number.Pre
 
-abbrev put-number-below : ℕ → In 1 put-number-kinds.ps
-put-number-below t =
-    and 1 put-number-kinds.ps (falls 1 put-number-kinds.ps _<_ μ-put-number t) put-number.Pre
+abbrev below : ℕ → In 1 put-number-kinds.ps
+below t = and 1 put-number-kinds.ps (falls 1 put-number-kinds.ps _<_ μ t) put-number.Pre
 
--- src/put.rt:24:41
-put-number-cast-put-byte : (t : ℕ) → put-number-lts.Need-cast-put-byte (
-  put-byte-reads.Asked,
-  put-byte-reads.Learnt,
-  put-number-below t,
-  put-number.Post,
-) (put-number-at t) put-number.Post
-put-number-cast-put-byte t c = omega arith
+module _ (t : ℕ) where
+  put-byte-requires : lts.Need-put-byte-requires (put-byte-reads.Asked, put-byte-reads.Learnt, below t, put-number.Post) (at t) put-number.Post
+  put-byte-requires c κs = omega (arith, some mostDigits (c .before .before .before .args .n) (omega arith))
 
--- src/put.rt:24:34
-put-number-add-put-byte : (t : ℕ) → put-number-lts.Need-add-put-byte (
-  put-byte-reads.Asked,
-  put-byte-reads.Learnt,
-  put-number-below t,
-  put-number.Post,
-) (put-number-at t) put-number.Post
-put-number-add-put-byte t c = omega arith
+  returns : lts.Need-returns (put-byte-reads.Asked, put-byte-reads.Learnt, below t, put-number.Post) (at t) put-number.Post
+  returns c =
+      let the-put-byte = c .before .before .put-byte in
+      let n = c .before .before .before .before .before .before .args .n in
+      number-one n (omega arith) (the-put-byte .ensures)
 
--- src/put.rt:24:9
-put-number-put-byte-requires : (t : ℕ) → put-number-lts.Need-put-byte-requires (
-  put-byte-reads.Asked,
-  put-byte-reads.Learnt,
-  put-number-below t,
-  put-number.Post,
-) (put-number-at t) put-number.Post
-put-number-put-byte-requires t c κs =
-    omega (arith, some mostDigits (c .before .before .before .args .n) (omega arith))
+  put-number-requires : lts.Need-put-number-requires (put-byte-reads.Asked, put-byte-reads.Learnt, below t, put-number.Post) (at t) put-number.Post
+  put-number-requires c κs = omega (arith, decimal-longer (c .before .before .before .args .n) (omega arith) (omega arith))
 
--- src/put.rt:24:9
-put-number-same-length : (t : ℕ) → put-number-lts.Need-same-length (
-  put-byte-reads.Asked,
-  put-byte-reads.Learnt,
-  put-number-below t,
-  put-number.Post,
-) (put-number-at t) put-number.Post
-put-number-same-length t c = omega arith
+  put-byte-requires-2 : lts.Need-put-byte-requires-2 (put-byte-reads.Asked, put-byte-reads.Learnt, below t, put-number.Post) (at t) put-number.Post
+  put-byte-requires-2 c κs =
+      let the-put-number = c .before .before .before .put-number in
+      let n = c .before .before .before .before .before .before .before .args .n in
+      omega (arith, decimal-longer n (omega arith) (omega arith), the-put-number .ensures .next, the-put-number .ensures .long)
 
--- src/put.rt:24:9
-put-number-returns : (t : ℕ) → put-number-lts.Need-returns (
-  put-byte-reads.Asked,
-  put-byte-reads.Learnt,
-  put-number-below t,
-  put-number.Post,
-) (put-number-at t) put-number.Post
-put-number-returns t c =
-    number-one (c .before .before .before .before .before .before .args .n) (omega arith) (c .before .before .put-byte .ensures)
-
--- src/put.rt:26:9
-put-number-put-number-requires : (t : ℕ) → put-number-lts.Need-put-number-requires (
-  put-byte-reads.Asked,
-  put-byte-reads.Learnt,
-  put-number-below t,
-  put-number.Post,
-) (put-number-at t) put-number.Post
-put-number-put-number-requires t c κs =
-    omega (arith, decimal-longer (c .before .before .before .args .n) (omega arith) (omega arith))
-
--- src/put.rt:27:32
-put-number-cast-put-byte-2 : (t : ℕ) → put-number-lts.Need-cast-put-byte-2 (
-  put-byte-reads.Asked,
-  put-byte-reads.Learnt,
-  put-number-below t,
-  put-number.Post,
-) (put-number-at t) put-number.Post
-put-number-cast-put-byte-2 t c = omega arith
-
--- src/put.rt:27:25
-put-number-add-put-byte-2 : (t : ℕ) → put-number-lts.Need-add-put-byte-2 (
-  put-byte-reads.Asked,
-  put-byte-reads.Learnt,
-  put-number-below t,
-  put-number.Post,
-) (put-number-at t) put-number.Post
-put-number-add-put-byte-2 t c = omega arith
-
--- src/put.rt:27:5
-put-number-put-byte-requires-2 : (t : ℕ) → put-number-lts.Need-put-byte-requires-2 (
-  put-byte-reads.Asked,
-  put-byte-reads.Learnt,
-  put-number-below t,
-  put-number.Post,
-) (put-number-at t) put-number.Post
-put-number-put-byte-requires-2 t c κs =
-    let the-args = c .before .before .before .before .before .before .before .args in
-    omega (arith, decimal-longer (the-args .n) (omega arith) (omega arith), c .before .before .before .put-number .ensures .next, c .before .before .before .put-number .ensures .long)
-
--- src/put.rt:19:1
-put-number-same-length-2 : (t : ℕ) → put-number-lts.Need-same-length-2 (
-  put-byte-reads.Asked,
-  put-byte-reads.Learnt,
-  put-number-below t,
-  put-number.Post,
-) (put-number-at t) put-number.Post
-put-number-same-length-2 t c = omega arith
-
--- src/put.rt:19:1
-put-number-returns-2 : (t : ℕ) → put-number-lts.Need-returns-2 (
-  put-byte-reads.Asked,
-  put-byte-reads.Learnt,
-  put-number-below t,
-  put-number.Post,
-) (put-number-at t) put-number.Post
-put-number-returns-2 t c =
-    let the-args = c .before .before .before .before .before .before .before .before .before .before .args in
-    number-more (the-args .n) (omega arith) (omega arith) (omega (arith, decimal-longer (the-args .n) (omega arith) (omega arith), c .before .before .before .before .before .before .put-number .ensures .next)) (c .before .before .before .before .before .before .put-number .ensures) (c .before .before .put-byte2 .ensures)
+  returns-2 : lts.Need-returns-2 (put-byte-reads.Asked, put-byte-reads.Learnt, below t, put-number.Post) (at t) put-number.Post
+  returns-2 c =
+      let the-put-byte2 = c .before .before .put-byte2 in
+      let the-put-number = c .before .before .before .before .before .before .put-number in
+      let n = c .before .before .before .before .before .before .before .before .before .before .args .n in
+      number-more n (omega arith) (omega arith) (omega arith) (the-put-number .ensures) (the-put-byte2 .ensures)
 
 pub +put-number-spec : {M : Type 1} → statement M
-+put-number-spec = close μ-put-number λ t. put-number-lts.spec (
-  put-byte-reads.Asked,
-  put-byte-reads.Learnt,
-  put-number-below t,
-  put-number.Post,
-)
-    (put-number-at t)
-    put-number.Post
-    (put-number-cast-put-byte t)
-    (put-number-add-put-byte t)
-    (put-number-put-byte-requires t)
-    (put-number-same-length t)
-    (put-number-returns t)
-    (put-number-put-number-requires t)
-    (put-number-cast-put-byte-2 t)
-    (put-number-add-put-byte-2 t)
-    (put-number-put-byte-requires-2 t)
-    (put-number-same-length-2 t)
-    (put-number-returns-2 t)
++put-number-spec =
+    close μ λ t.
+    lts.spec (put-byte-reads.Asked, put-byte-reads.Learnt, below t, put-number.Post) (at t) put-number.Post
+    (λ c. omega arith)
+    (λ c. omega arith)
+    (put-byte-requires t)
+    (λ c. omega arith)
+    (returns t)
+    (put-number-requires t)
+    (λ c. omega arith)
+    (λ c. omega arith)
+    (put-byte-requires-2 t)
+    (λ c. omega arith)
+    (returns-2 t)
