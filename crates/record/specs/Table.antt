@@ -28,6 +28,10 @@ messageAt R p = getD R (p .0 - 1) []
 abbrev pub messageIn : List ℕ → Place → Message
 messageIn t p = take messageWidth (drop ((p .0 - 1) * messageWidth) t)
 
+-- a table with other numbers from a position on
+abbrev pub withNumbers : ℕ → List ℕ → List ℕ → List ℕ
+withNumbers from t xs = take from t ++ xs ++ drop (from + length xs) t
+
 -- the table with a message in the place after n
 abbrev pub withMessage : ℕ → List ℕ → Message → List ℕ
 withMessage n t m = take (n * messageWidth) t ++ m ++ drop (n * messageWidth + messageWidth) t

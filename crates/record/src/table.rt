@@ -6,7 +6,7 @@ ghost use mathlib.Core.Path.{_≡_};
 ghost use Prim.Native.Nat.{_*_, _+_, _≤_};
 ghost use lib.ListN.{length};
 ghost use Rattle.record.specs.Layout.{messageWidth};
-ghost use Rattle.record.specs.Table.{lawfulRecord, messageIn, roomOf, whole, withMessage};
+ghost use Rattle.record.specs.Table.{lawfulRecord, messageIn, roomOf, whole, withMessage, withNumbers};
 
 pub const MOST_ROOM: usize = 512;
 
@@ -57,15 +57,22 @@ pub fn is_lawful_record(t: &[u16], n: usize) -> bool
     true
 }
 
+// Numbers copied into a table; the rest of it stays.
+pub fn copy_into(t: &mut [u16], from: usize, xs: &[u16])
+    requires { ⌜ from + length (now xs) ≤ length (now t) ⌝ }
+    ensures { λ _. ⌜ now (t .exit) ≡ withNumbers from (now (t .entry)) (now (xs .entry)) ⌝ }
+{
+    let mut i = 0;
+    while i < xs.len() {
+        t[from + i] = xs[i];
+        i += 1;
+    }
+}
+
 // A message written into the place after n.
 pub fn write(t: &mut [u16], n: usize, m: &[u16])
     requires { ⌜ (n * messageWidth + messageWidth ≤ length (now t)) × (length (now m) ≡ messageWidth) ⌝ }
     ensures { λ _. ⌜ now (t .exit) ≡ withMessage n (now (t .entry)) (now (m .entry)) ⌝ }
 {
-    let from = n * MESSAGE_WIDTH;
-    let mut i = 0;
-    while i < MESSAGE_WIDTH {
-        t[from + i] = m[i];
-        i += 1;
-    }
+    copy_into(t, n * MESSAGE_WIDTH, m);
 }

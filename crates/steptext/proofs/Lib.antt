@@ -1,4 +1,6 @@
 pub mod Values
+pub mod Whole
+pub mod Gathered
 pub mod Parted
 pub mod Said
 pub mod Scans

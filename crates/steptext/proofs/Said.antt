@@ -129,7 +129,7 @@ valueRead : Number → ℕ
 valueRead (Is v) = v
 valueRead Unreadable = 0
 
-read-by : (b : Bool) (v w : ℕ) → Is v ≡ cond b (Is w) Unreadable → (b ≡ true) × (v ≡ w)
+pub read-by : (b : Bool) (v w : ℕ) → Is v ≡ cond b (Is w) Unreadable → (b ≡ true) × (v ≡ w)
 unfolding isRead valueRead
 read-by true v w e = (refl, ap valueRead e)
 read-by false v w e = absurd (true≢false (ap isRead e))
@@ -137,7 +137,7 @@ read-by false v w e = absurd (true≢false (ap isRead e))
 pub is-read : (xs : Text) (v : ℕ) → Is v ≡ numberIn xs → (isNumber xs ≡ true) × (v ≡ valueOf xs)
 is-read xs v e = read-by (isNumber xs) v (valueOf xs) e
 
-unread-by : (b : Bool) (w : ℕ) → Unreadable ≡ cond b (Is w) Unreadable → b ≡ false
+pub unread-by : (b : Bool) (w : ℕ) → Unreadable ≡ cond b (Is w) Unreadable → b ≡ false
 unfolding isRead
 unread-by true w e = absurd (false≢true (ap isRead e))
 unread-by false w e = refl

@@ -2,3 +2,4 @@ pub mod Number
 pub mod Read
 pub mod Says
 pub mod Text
+pub mod Told

@@ -46,17 +46,19 @@ answersOf (says answers ss) = answers
 answersOf (unreadable line) = 0
 answersOf tooLong = 0
 
+abbrev pub stepsIn : Reading → List Step
+stepsIn (says answers ss) = ss
+stepsIn (unreadable line) = []
+stepsIn tooLong = []
+
 abbrev pub countOf : Reading → ℕ
-countOf (says answers ss) = length ss
-countOf (unreadable line) = 0
-countOf tooLong = 0
+countOf o = length (stepsIn o)
 
 abbrev pub lineOf : Reading → ℕ
 lineOf (says answers ss) = 0
 lineOf (unreadable line) = line
 lineOf tooLong = 0
 
+-- a refused text has no steps, and so leaves the table as it was
 abbrev pub tableAfter : List ℕ → Reading → List ℕ
-tableAfter table (says answers ss) = over (flat ss) table
-tableAfter table (unreadable line) = table
-tableAfter table tooLong = table
+tableAfter table o = over (flat (stepsIn o)) table

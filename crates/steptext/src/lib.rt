@@ -2,4 +2,5 @@
 pub mod bytes;
 pub mod lines;
 pub mod numbers;
+pub mod read;
 pub mod says;
