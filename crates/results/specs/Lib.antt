@@ -2,3 +2,4 @@ pub mod Decimal
 pub mod Printed
 pub mod Put
 pub mod Rows
+pub mod Shown

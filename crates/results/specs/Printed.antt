@@ -49,6 +49,9 @@ resultsOf room (says answers ss) = results answers room ss
 resultsOf room (unreadable at) = refusedLine 10 at
 resultsOf room tooLong = refusedLine 11 0
 
--- with room for so many messages
+-- of a text, with room for so many messages
+abbrev pub reading : Text → Reading
+reading text = readText (mostSteps * stepWidth) text
+
 unfoldable pub output : ℕ → Text → Text
-output room text = resultsOf room (readText (mostSteps * stepWidth) text)
+output room text = resultsOf room (reading text)
