@@ -1,19 +1,19 @@
 -- The flat table and the list of pieces that is cut from it: the one bridge between code, which has the table, and definitions, which
 -- speak of the list.
 use mathlib.Core.Bool.{Bool, _&&_}
-use mathlib.Core.List.{List, [], _∷_, _++_, append-assoc}
+use mathlib.Core.List.{List, [], _∷_, _++_, append-assoc, append-nil}
 use mathlib.Core.Path.{_≡_, _∙_, refl, sym, ap, ap₂}
 use Prim.Native.Nat.{ℕ, zero, suc, _+_, _*_, _-_, _≤_, _<_}
-use native.Mathlib.Nat.{add-comm, le-of-suc-le-suc, not-suc-le-zero, suc-mul, zero-mul}
+use native.Mathlib.Nat.{add-comm, add-zero, le-of-suc-le-suc, not-suc-le-zero, suc-add, suc-mul, zero-add, zero-mul}
 use native.Mathlib.Numerals.{add-one}
 use native.Mathlib.Omega.{arith}
 use lib.ListN.{drop, getD, length, length-drop, length-take, take, take-append-drop}
 use lib.Seq.{drop-append-le, drop-cons, drop-drop, length-take-le, take-append-le, take-at}
-use Rattle.record.specs.Layout.{messageWidth}
-use Rattle.record.specs.Parts.{Message}
-use Rattle.record.specs.Table.{cut, messageAt, messageIn, messages, withMessage}
-use Rattle.record.specs.Tests.{all}
-use Rattle.record.specs.declared.parts.Place.{Place}
+use Rattle.messages.specs.Layout.{messageWidth}
+use Rattle.messages.specs.Parts.{Message}
+use Rattle.record.specs.Table.{Record, cut, messageAt, messageIn, messages, withMessage}
+use Rattle.messages.specs.Tests.{all}
+use Rattle.messages.specs.declared.parts.Place.{Place}
 
 pub length-cut : (w n : ℕ) (t : List ℕ) → length (cut w n t) ≡ n
 length-cut w zero t = refl
@@ -43,24 +43,26 @@ part a w t h =
     let e : a + w - a ≡ w = omega arith in
     (ap (λ (k : ℕ). take k (drop a t)) e, simp (length-take, length-drop) (omega arith))
 
+-- a list that is continued has the same first pieces
+pub cut-append : (w n m : ℕ) (xs ys : List ℕ) → length xs ≡ n * w → cut w (n + m) (xs ++ ys) ≡ cut w n xs ++ cut w m ys
+cut-append w zero m [] ys e = ap (λ (k : ℕ). cut w k ys) (zero-add m)
+cut-append w zero m (x ∷ xs) ys e = absurd (omega (arith, zero-mul w))
+cut-append w (suc n) m xs ys e =
+    let most : w ≤ length xs = omega (arith, suc-mul n w) in
+    ap (λ (k : ℕ). cut w k (xs ++ ys)) (suc-add n m)
+    ∙ ap₂ _∷_ (take-append-le w xs ys most)
+    (ap (cut w (n + m)) (drop-append-le w xs ys most) ∙ cut-append w n m (drop w xs) ys (length-drop w xs ∙ omega (arith, suc-mul n w)))
+
 -- the front of a table decides its first pieces
 cut-front : (w n : ℕ) (xs ys : List ℕ) → length xs ≡ n * w → cut w n (xs ++ ys) ≡ cut w n xs
-cut-front w zero xs ys e = refl
-cut-front w (suc n) xs ys e =
-    let l : w ≤ length xs = omega (arith, suc-mul n w) in
-    ap₂ (λ (a : List ℕ) (b : List (List ℕ)). a ∷ b) (take-append-le w xs ys l)
-    (ap (cut w n) (drop-append-le w xs ys l) ∙ cut-front w n (drop w xs) ys (length-drop w xs ∙ omega (arith, suc-mul n w)))
+cut-front w n xs ys e = ap (λ (k : ℕ). cut w k (xs ++ ys)) (sym (add-zero n)) ∙ cut-append w n 0 xs ys e ∙ append-nil (cut w n xs)
 
 -- the pieces of a front that is as long as they are, and one piece after it
 cut-more : (w n : ℕ) (xs m ys : List ℕ) → length xs ≡ n * w → length m ≡ w → cut w (suc n) (xs ++ m ++ ys) ≡ cut w n xs ++ (m ∷ [])
-cut-more w zero [] m ys e l = ap (λ (a : List ℕ). a ∷ []) (take-at m ys w l)
-cut-more w zero (x ∷ xs) m ys e l = absurd (omega (arith, zero-mul w))
-cut-more w (suc n) xs m ys e l =
-    let k : w ≤ length xs = omega (arith, suc-mul n w) in
-    ap₂ (λ (a : List ℕ) (b : List (List ℕ)). a ∷ b)
-    (ap (take w) (append-assoc xs m ys) ∙ take-append-le w xs (m ++ ys) k)
-    (ap (cut w (suc n)) (ap (drop w) (append-assoc xs m ys) ∙ drop-append-le w xs (m ++ ys) k ∙ sym (append-assoc (drop w xs) m ys))
-    ∙ cut-more w n (drop w xs) m ys (length-drop w xs ∙ omega (arith, suc-mul n w)) l)
+cut-more w n xs m ys e l =
+    ap₂ (cut w) (sym (add-one n)) (append-assoc xs m ys)
+    ∙ cut-append w n 1 xs (m ++ ys) e
+    ∙ ap (λ (a : List ℕ). cut w n xs ++ (a ∷ [])) (take-at m ys w l)
 
 -- a message written after n makes the list of messages one longer at its end
 pub messages-with : (n : ℕ) (t : List ℕ) (m : Message) → n * messageWidth ≤ length t → length m ≡ messageWidth
@@ -71,3 +73,19 @@ messages-with n t m h l =
     ∙ ap (λ (R : List Message). R ++ (m ∷ []))
     (sym (cut-front messageWidth n (take (n * messageWidth) t) (drop (n * messageWidth) t) k)
     ∙ ap (messages n) (take-append-drop (n * messageWidth) t))
+
+-- one piece more
+pub cut-next : (w n : ℕ) (t : List ℕ) → cut w (suc n) t ≡ cut w n t ++ (take w (drop (n * w) t) ∷ [])
+cut-next w zero t = ap (λ (k : ℕ). take w (drop k t) ∷ []) (sym (zero-mul w))
+cut-next w (suc n) t =
+    ap (λ (z : List (List ℕ)). take w t ∷ z)
+    (cut-next w n (drop w t)
+    ∙ ap (λ (k : List ℕ). cut w n (drop w t) ++ (take w k ∷ []))
+    (drop-drop (n * w) w t ∙ ap (λ (j : ℕ). drop j t) (add-comm w (n * w) ∙ sym (suc-mul n w))))
+
+-- the first messages of the first messages
+pub take-messages : (k n : ℕ) (t : List ℕ) → k ≤ n → take k (messages n t) ≡ messages k t
+take-messages zero n t h = refl
+take-messages (suc k) zero t h = absurd (not-suc-le-zero h)
+take-messages (suc k) (suc n) t h =
+    ap (λ (z : Record). take messageWidth t ∷ z) (take-messages k n (drop messageWidth t) (le-of-suc-le-suc h))

@@ -1,3 +1,3 @@
-pub mod Chain
 pub mod Cut
 pub mod Rows
+pub mod Whole

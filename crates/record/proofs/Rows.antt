@@ -5,18 +5,14 @@ use mathlib.Core.Path.{_≡_, _∙_, refl, sym, ap, ap₂, subst}
 use Prim.Native.Nat.{ℕ, zero, suc, _+_, _*_, _<_}
 use borrow.Author.Tests.{eqb-true}
 use lib.Dec.{eqb}
-use Rattle.record.specs.Tests.{all}
-use Rattle.record.proofs.Chain.{left-of, right-of}
+use Rattle.messages.specs.Tests.{all}
+use Rattle.messages.proofs.Chain.{left-of, right-of}
 use native.Mathlib.Nat.{zero-add, add-assoc, suc-mul, zero-mul, not-suc-le-zero, le-of-suc-le-suc, add-comm}
 use native.Mathlib.Numerals.{add-one}
 use lib.ListN.{List·getD-append, List·getD-map, drop, getD, length}
 use lib.Seq.{drop-cons, getD-append-add}
 use Rattle.record.specs.Lawful.{Range, fits, unused, within}
-
--- rows one after the other
-abbrev pub flat : {A : Type 0} → List (List A) → List A
-flat [] = []
-flat (r ∷ rs) = r ++ flat rs
+use Rattle.record.specs.Table.{flat}
 
 -- every row has w entries
 abbrev pub even : {A : Type 0} → ℕ → List (List A) → Bool

@@ -2,17 +2,15 @@
 use Prim.Native.Nat.{ℕ, _-_}
 use mathlib.Core.Bool.{Bool, true, false, cond, _&&_}
 use mathlib.Core.List.{List, [], _∷_, _++_}
-use lib.Dec.{eqb, leb}
+use lib.Dec.{eqb}
 use lib.ListN.{getD, length}
-use Rattle.record.specs.Layout.{filled, kindOf, messageWidth}
-use Rattle.record.specs.Parts.{Message}
+use Rattle.messages.specs.Layout.{filled, kindOf, messageWidth}
+use Rattle.messages.specs.Parts.{Message}
+use Rattle.messages.specs.Tests.{between}
 
 -- what a position may hold: nothing (it is unused), a kind, a buyer, a seller, a gateway, an account, a draw, a response code
 pub data Range : Type 0 where
   unused kinds buyers sellers gateways accounts draws codes : Range
-
-abbrev pub between : ℕ → ℕ → ℕ → Bool
-between least x most = leb least x && leb x most
 
 abbrev pub within : Range → ℕ → Bool
 within unused x = between 0 x 0

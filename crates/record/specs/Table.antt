@@ -5,10 +5,10 @@ use mathlib.Core.List.{List, [], _∷_, _++_}
 use lib.Dec.{eqb, leb}
 use lib.ListN.{drop, getD, length, take}
 use Rattle.record.specs.Lawful.{lawful}
-use Rattle.record.specs.Layout.{messageWidth}
-use Rattle.record.specs.Parts.{Message}
-use Rattle.record.specs.Tests.{all}
-use Rattle.record.specs.declared.parts.Place.{Place}
+use Rattle.messages.specs.Layout.{messageWidth}
+use Rattle.messages.specs.Parts.{Message}
+use Rattle.messages.specs.Tests.{all}
+use Rattle.messages.specs.declared.parts.Place.{Place}
 
 abbrev pub Record : Type 0
 Record = List Message
@@ -17,6 +17,11 @@ Record = List Message
 abbrev pub cut : ℕ → ℕ → List ℕ → List (List ℕ)
 cut w zero t = []
 cut w (suc n) t = take w t ∷ cut w n (drop w t)
+
+-- pieces one after the other
+abbrev pub flat : {A : Type 0} → List (List A) → List A
+flat [] = []
+flat (x ∷ xs) = x ++ flat xs
 
 abbrev pub messages : ℕ → List ℕ → Record
 messages n t = cut messageWidth n t

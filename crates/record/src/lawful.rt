@@ -1,14 +1,15 @@
 // Which messages are lawful.
-use crate::layout::AUTH_RESPONSE;
-use crate::layout::INITIATE;
-use crate::layout::KIND;
-use crate::layout::MESSAGE_WIDTH;
+use messages::layout::AUTH_RESPONSE;
+use messages::layout::INITIATE;
+use messages::layout::KIND;
+use messages::layout::MESSAGE_WIDTH;
 ghost use mathlib.Core.Path.{_≡_};
 ghost use mathlib.Core.List.{[]};
 ghost use Prim.Native.Nat.{_<_};
 ghost use lib.ListN.{getD, length};
-ghost use Rattle.record.specs.Lawful.{between, fits, kindRanges, lawful, rangeLettered, within};
-ghost use Rattle.record.specs.Layout.{messageWidth};
+ghost use Rattle.messages.specs.Tests.{between};
+ghost use Rattle.record.specs.Lawful.{fits, kindRanges, lawful, rangeLettered, within};
+ghost use Rattle.messages.specs.Layout.{messageWidth};
 
 // What each position may hold, a row for each kind from Initiate to Auth-Response. K is a kind, B a buyer, S a seller, G a
 // gateway, A an account, D a draw, C a response code; a position with - is unused.

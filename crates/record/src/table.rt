@@ -1,11 +1,11 @@
 // The record: a flat table of numbers, 48 to a message, and how many messages stand in it.
 use crate::lawful::is_lawful;
-use crate::layout::MESSAGE_WIDTH;
-use crate::parts::Place;
+use messages::layout::MESSAGE_WIDTH;
+use messages::parts::Place;
 ghost use mathlib.Core.Path.{_≡_};
 ghost use Prim.Native.Nat.{_*_, _+_, _≤_};
 ghost use lib.ListN.{length};
-ghost use Rattle.record.specs.Layout.{messageWidth};
+ghost use Rattle.messages.specs.Layout.{messageWidth};
 ghost use Rattle.record.specs.Table.{lawfulRecord, messageIn, roomOf, whole, withMessage, withNumbers};
 
 pub const MOST_ROOM: usize = 512;

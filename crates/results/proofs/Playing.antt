@@ -6,8 +6,8 @@ use native.Mathlib.Omega.{arith}
 use borrow.Author.Tests.{leb-true}
 use mathlib.Core.Bool.{true}
 use lib.Dec.{eqb, leb}
-use Rattle.record.proofs.Chain.{right-of}
-use Rattle.record.specs.Layout.{messageWidth}
+use Rattle.messages.proofs.Chain.{right-of}
+use Rattle.messages.specs.Layout.{messageWidth}
 use lib.ListN.{drop, length, take}
 use lib.Seq.{take-at}
 use Rattle.record.proofs.Cut.{length-cut}

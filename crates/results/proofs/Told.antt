@@ -11,11 +11,11 @@ use lib.Dec.{eqb}
 use lib.ListN.{drop, drop-of-length-le, getD, length, length-append, take}
 use lib.Seq.{drop-cons}
 use Rattle.record.proofs.Cut.{cut-at, length-cut}
-use Rattle.record.specs.Layout.{messageWidth}
-use Rattle.record.specs.Parts.{Message}
+use Rattle.messages.specs.Layout.{messageWidth}
+use Rattle.messages.specs.Parts.{Message}
 use Rattle.record.specs.Table.{Record, messageIn, messages}
 use Rattle.rules.proofs.Accepted.{never-zero}
-use Rattle.record.specs.declared.signed.ReplySigned.{ReplySigned}
+use Rattle.messages.specs.declared.signed.ReplySigned.{ReplySigned}
 use Rattle.rules.specs.Items.{replySignedIn}
 use Rattle.rules.specs.Report.{houseReply, replyMark, reportOn}
 use Rattle.rules.specs.Run.{verdicts}

@@ -3,7 +3,7 @@ use Prim.Native.Nat.{ℕ, _+_, _*_}
 use mathlib.Core.Bool.{cond}
 use mathlib.Core.List.{List, [], _∷_}
 use lib.Dec.{eqb}
-use Rattle.record.specs.Parts.{Message}
+use Rattle.messages.specs.Parts.{Message}
 use Rattle.record.specs.Table.{Record, messageIn, messages, mostRoom}
 use Rattle.rules.specs.Report.{houseReply, replyMark}
 use Rattle.rules.specs.Run.{mostSteps}

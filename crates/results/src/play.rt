@@ -1,7 +1,7 @@
 // A text played on a lent record, with its results in lent bytes: all that the program does between reading and writing.
 use crate::lines::put_refused_line;
 use crate::rows::put_results;
-use record::layout::MESSAGE_WIDTH;
+use messages::layout::MESSAGE_WIDTH;
 use record::table::MOST_ROOM;
 use runs::run::MOST_STEPS;
 use runs::run::STEP_WIDTH;

@@ -1,9 +1,9 @@
 // The lines of a list that was played: a line for each step, then, by place, a line for each house reply.
 use crate::lines::put_reply_line;
 use crate::lines::put_step_line;
-use record::layout::REPLY_SIGNED;
-use record::parts::Place;
-use record::signed::reply_signed_at;
+use messages::layout::REPLY_SIGNED;
+use messages::parts::Place;
+use messages::signed::reply_signed_at;
 use record::table::message;
 use runs::report::is_house_reply;
 use runs::report::report_on;
@@ -11,7 +11,7 @@ ghost use mathlib.Core.List.{_++_};
 ghost use mathlib.Core.Path.{_≡_};
 ghost use Prim.Native.Nat.{_*_, _+_, _<_, _≤_};
 ghost use lib.ListN.{length};
-ghost use Rattle.record.specs.Layout.{messageWidth};
+ghost use Rattle.messages.specs.Layout.{messageWidth};
 ghost use Rattle.record.specs.Table.{messages, mostRoom};
 ghost use Rattle.results.specs.Put.{Put};
 ghost use Rattle.results.specs.Rows.{countBy, lineAfter, mostPrinted, placeBy, replyLines, replyWidest, stepLines, stepWidest};

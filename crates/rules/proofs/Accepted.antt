@@ -6,9 +6,9 @@ use Prim.Native.Nat.{ℕ, _<_}
 use native.Mathlib.Omega.{arith}
 use borrow.Author.Tests.{lt-ltb, ltb-true}
 use lib.ListN.{length}
-use Rattle.record.specs.Parts.{Message}
+use Rattle.messages.specs.Parts.{Message}
 use Rattle.record.specs.Table.{Record}
-use Rattle.record.specs.Tests.{all}
+use Rattle.messages.specs.Tests.{all}
 use Rattle.rules.proofs.Gates.{Open, all-open, passes}
 use Rattle.rules.specs.Codes.{Argument, Deed, Row, known, rowOf}
 use Rattle.rules.specs.Honest.{holds}

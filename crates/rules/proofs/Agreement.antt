@@ -8,16 +8,16 @@ use native.Mathlib.Omega.{arith}
 use borrow.Author.Tests.{eqb-false, eqb-true}
 use lib.Dec.{eqb}
 use lib.ListN.{length}
-use Rattle.record.specs.Layout.{AuthRequest, AuthResponse, Initiate, Invoice, Kind, Payment, anAuthRequest, body, destination, laid, requestBuyerSigned, requestSigned, requestSlip, source}
-use Rattle.record.specs.Parts.{Message, buyerAt, gatewayAt, hashedNumbers, markAt, markNumbers, markWidth, ownerOf, sellerAt, slipAt, slipNumbers, slipWidth}
-use Rattle.record.specs.Signed.{buyerSignedAt, buyerSignedNumbers, invoiceSignedNumbers, requestSignedAt, requestSignedNumbers}
+use Rattle.messages.specs.Layout.{AuthRequest, AuthResponse, Initiate, Invoice, Kind, Payment, anAuthRequest, body, destination, laid, requestBuyerSigned, requestSigned, requestSlip, source}
+use Rattle.messages.specs.Parts.{Message, buyerAt, gatewayAt, hashedNumbers, markAt, markNumbers, markWidth, ownerOf, sellerAt, slipAt, slipNumbers, slipWidth}
+use Rattle.messages.specs.Signed.{buyerSignedAt, buyerSignedNumbers, invoiceSignedNumbers, requestSignedAt, requestSignedNumbers}
 use Rattle.record.specs.Table.{Record, messageAt}
-use Rattle.record.specs.Tests.{all}
-use Rattle.record.specs.declared.parts.Buyer.{Buyer}
-use Rattle.record.specs.declared.parts.Mark.{Mark}
-use Rattle.record.specs.declared.parts.Seller.{Seller}
-use Rattle.record.specs.declared.signed.BuyerSigned.{BuyerSigned}
-use Rattle.record.specs.declared.signed.RequestSigned.{RequestSigned}
+use Rattle.messages.specs.Tests.{all}
+use Rattle.messages.specs.declared.parts.Buyer.{Buyer}
+use Rattle.messages.specs.declared.parts.Mark.{Mark}
+use Rattle.messages.specs.declared.parts.Seller.{Seller}
+use Rattle.messages.specs.declared.signed.BuyerSigned.{BuyerSigned}
+use Rattle.messages.specs.declared.signed.RequestSigned.{RequestSigned}
 use Rattle.rules.proofs.Claims.{as-part, facts}
 use Rattle.rules.proofs.Deeds.{Taken, by-deed, named}
 use Rattle.rules.proofs.Laid.{relaid}

@@ -6,8 +6,8 @@ use mathlib.Core.Path.{_≡_, _∙_, refl, sym, ap, subst}
 use Prim.Native.Nat.{ℕ}
 use borrow.Author.Tests.{eqb-true}
 use lib.Dec.{eqb}
-use Rattle.record.proofs.Chain.{left-of, right-of}
-use Rattle.record.specs.Layout.{AuthRequest, AuthResponse, Initiate, Invoice, Payment}
+use Rattle.messages.proofs.Chain.{left-of, right-of}
+use Rattle.messages.specs.Layout.{AuthRequest, AuthResponse, Initiate, Invoice, Payment}
 use Rattle.rules.proofs.Tests.{either, other, picked}
 use Rattle.rules.specs.Codes.{Argument, Item, letter}
 use Rattle.rules.specs.Forged.{given, gives}

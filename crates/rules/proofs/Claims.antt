@@ -3,9 +3,9 @@ use mathlib.Core.Bool.{true}
 use mathlib.Core.List.{List, [], _∷_}
 use mathlib.Core.Path.{_≡_, refl, ap}
 use Prim.Native.Nat.{ℕ}
-use Rattle.record.proofs.Chain.{left-of, right-of}
-use Rattle.record.specs.Parts.{Message}
-use Rattle.record.specs.Tests.{all}
+use Rattle.messages.proofs.Chain.{left-of, right-of}
+use Rattle.messages.specs.Parts.{Message}
+use Rattle.messages.specs.Tests.{all}
 use Rattle.rules.proofs.Tests.{both, eq-same, same-eq}
 use Rattle.rules.specs.Honest.{Claim, holds}
 

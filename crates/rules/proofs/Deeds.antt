@@ -6,12 +6,11 @@ use mathlib.Core.Path.{_≡_, _∙_, refl, sym, subst}
 use Prim.Native.Nat.{ℕ, _-_}
 use lib.ListN.{length}
 use native.Mathlib.Omega.{arith}
-use Rattle.record.proofs.Chain.{left-of, right-of}
-use Rattle.record.specs.Lawful.{between}
-use Rattle.record.specs.Layout.{AuthRequest, AuthResponse, Initiate, Invoice, Kind, Payment}
-use Rattle.record.specs.Parts.{Message}
+use Rattle.messages.proofs.Chain.{left-of, right-of}
+use Rattle.messages.specs.Layout.{AuthRequest, AuthResponse, Initiate, Invoice, Kind, Payment}
+use Rattle.messages.specs.Parts.{Message}
 use Rattle.record.specs.Table.{Record, messageAt}
-use Rattle.record.specs.Tests.{all}
+use Rattle.messages.specs.Tests.{all, between}
 use Rattle.rules.proofs.Accepted.{Passed, is-accepted}
 use Rattle.rules.proofs.Arguments.{passed-given}
 use Rattle.rules.proofs.Tests.{all-member, bounds, member-at, picked}

@@ -6,9 +6,9 @@ use mathlib.Core.Path.{_≡_, _∙_, refl, sym, ap}
 use Prim.Native.Nat.{ℕ, _-_}
 use borrow.Author.Tests.{eqb-true}
 use lib.ListN.{getD, length}
-use Rattle.record.specs.Layout.{AuthRequest, AuthResponse, Initiate, Invoice, Kind, Payment, aPayment, anAuthRequest, anAuthResponse, anInitiate, anInvoice, body, destination, invoiceSigned, kindNumber, kindOf, maker, messageWidth, paymentSigned, replySigned, requestBuyerSigned, requestSigned, requestSlip, source}
-use Rattle.record.specs.Parts.{Message, buyerAt, gatewayAt, hashedAt, markAt, sellerAt, slipAt}
-use Rattle.record.specs.Signed.{buyerSignedAt, invoiceSignedAt, replySignedAt, requestSignedAt}
+use Rattle.messages.specs.Layout.{AuthRequest, AuthResponse, Initiate, Invoice, Kind, Payment, aPayment, anAuthRequest, anAuthResponse, anInitiate, anInvoice, body, destination, invoiceSigned, kindNumber, kindOf, maker, messageWidth, paymentSigned, replySigned, requestBuyerSigned, requestSigned, requestSlip, source}
+use Rattle.messages.specs.Parts.{Message, buyerAt, gatewayAt, hashedAt, markAt, sellerAt, slipAt}
+use Rattle.messages.specs.Signed.{buyerSignedAt, invoiceSignedAt, replySignedAt, requestSignedAt}
 use Rattle.rules.specs.Items.{isKind}
 
 -- the message that the parts of x make as a message of a kind

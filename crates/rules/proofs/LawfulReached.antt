@@ -9,20 +9,20 @@ use borrow.Author.Tests.{eqb-false, le-leb, leb-true}
 use lib.Dec.{eqb}
 use lib.ListN.{length, length-append}
 use native.Mathlib.Omega.{arith}
-use Rattle.record.proofs.Chain.{left-of, right-of}
+use Rattle.messages.proofs.Chain.{left-of, right-of}
 use Rattle.record.proofs.Cut.{length-cut}
 use Rattle.record.specs.Lawful.{Range, accounts, buyers, codes, draws, fits, lawful, markRanges, sellers, slipRanges, within}
-use Rattle.record.specs.Layout.{AuthRequest, AuthResponse, Initiate, Invoice, Kind, Payment, body, destination, invoiceSigned, messageWidth, paymentSigned, replySigned, requestBuyerSigned, requestSigned, requestSlip, source}
-use Rattle.record.specs.Parts.{Message, accountOf, buyerAt, drawnAt, drawnNumbers, drawnWidth, hashedAt, hashedWidth, markAt, markNumbers, markWidth, sellerAt, slipAt, slipNumbers, slipWidth}
-use Rattle.record.specs.Signed.{buyerSignedAt, buyerSignedWidth, invoiceSignedWidth, replySignedWidth, requestSignedWidth}
+use Rattle.messages.specs.Layout.{AuthRequest, AuthResponse, Initiate, Invoice, Kind, Payment, body, destination, invoiceSigned, messageWidth, paymentSigned, replySigned, requestBuyerSigned, requestSigned, requestSlip, source}
+use Rattle.messages.specs.Parts.{Message, accountOf, buyerAt, drawnAt, drawnNumbers, drawnWidth, hashedAt, hashedWidth, markAt, markNumbers, markWidth, sellerAt, slipAt, slipNumbers, slipWidth}
+use Rattle.messages.specs.Signed.{buyerSignedAt, buyerSignedWidth, invoiceSignedWidth, replySignedWidth, requestSignedWidth}
 use Rattle.record.specs.Table.{Record, messageAt, messages, mostRoom, roomOf}
-use Rattle.record.specs.Tests.{all}
-use Rattle.record.specs.declared.parts.Account.{Account}
-use Rattle.record.specs.declared.parts.Buyer.{Buyer}
-use Rattle.record.specs.declared.parts.Drawn.{Drawn}
-use Rattle.record.specs.declared.parts.Mark.{Mark}
-use Rattle.record.specs.declared.parts.Seller.{Seller}
-use Rattle.record.specs.declared.parts.Slip.{Slip}
+use Rattle.messages.specs.Tests.{all}
+use Rattle.messages.specs.declared.parts.Account.{Account}
+use Rattle.messages.specs.declared.parts.Buyer.{Buyer}
+use Rattle.messages.specs.declared.parts.Drawn.{Drawn}
+use Rattle.messages.specs.declared.parts.Mark.{Mark}
+use Rattle.messages.specs.declared.parts.Seller.{Seller}
+use Rattle.messages.specs.declared.parts.Slip.{Slip}
 use Rattle.rules.proofs.Accepted.{is-accepted}
 use Rattle.rules.proofs.Arguments.{not-given, passed-given}
 use Rattle.rules.proofs.Deeds.{Taken, by-deed, hashedBuilt, item-of, markBuilt, member-place, named, ranged, slipBuilt, two-named}

@@ -6,21 +6,21 @@ use Prim.Native.Nat.{ℕ, zero, suc, _-_}
 use borrow.Author.Tests.{eqb-true}
 use lib.Dec.{eqb}
 use lib.ListN.{getD, length, replicate}
-use Rattle.record.proofs.Chain.{left-of, right-of}
+use Rattle.messages.proofs.Chain.{left-of, right-of}
 use Rattle.record.specs.Lawful.{Range, buyers, codes, fits, gateways, hashedRanges, kindRanges, kinds, lawful, markRanges, sellers, slipRanges, unused, within}
-use Rattle.record.specs.Layout.{Kind, aPayment, anAuthRequest, anAuthResponse, anInitiate, anInvoice, filled, kindNumber, kindOf, messageWidth}
-use Rattle.record.specs.Parts.{Message, hashedNumbers, markNumbers, slipNumbers}
-use Rattle.record.specs.Signed.{buyerSignedNumbers, invoiceSignedNumbers, replySignedNumbers, requestSignedNumbers}
-use Rattle.record.specs.declared.parts.Buyer.{Buyer}
-use Rattle.record.specs.declared.parts.Gateway.{Gateway}
-use Rattle.record.specs.declared.parts.Hashed.{Hashed}
-use Rattle.record.specs.declared.parts.Mark.{Mark}
-use Rattle.record.specs.declared.parts.Seller.{Seller}
-use Rattle.record.specs.declared.parts.Slip.{Slip}
-use Rattle.record.specs.declared.signed.BuyerSigned.{BuyerSigned}
-use Rattle.record.specs.declared.signed.InvoiceSigned.{InvoiceSigned}
-use Rattle.record.specs.declared.signed.ReplySigned.{ReplySigned}
-use Rattle.record.specs.declared.signed.RequestSigned.{RequestSigned}
+use Rattle.messages.specs.Layout.{Kind, aPayment, anAuthRequest, anAuthResponse, anInitiate, anInvoice, filled, kindNumber, kindOf, messageWidth}
+use Rattle.messages.specs.Parts.{Message, hashedNumbers, markNumbers, slipNumbers}
+use Rattle.messages.specs.Signed.{buyerSignedNumbers, invoiceSignedNumbers, replySignedNumbers, requestSignedNumbers}
+use Rattle.messages.specs.declared.parts.Buyer.{Buyer}
+use Rattle.messages.specs.declared.parts.Gateway.{Gateway}
+use Rattle.messages.specs.declared.parts.Hashed.{Hashed}
+use Rattle.messages.specs.declared.parts.Mark.{Mark}
+use Rattle.messages.specs.declared.parts.Seller.{Seller}
+use Rattle.messages.specs.declared.parts.Slip.{Slip}
+use Rattle.messages.specs.declared.signed.BuyerSigned.{BuyerSigned}
+use Rattle.messages.specs.declared.signed.InvoiceSigned.{InvoiceSigned}
+use Rattle.messages.specs.declared.signed.ReplySigned.{ReplySigned}
+use Rattle.messages.specs.declared.signed.RequestSigned.{RequestSigned}
 use Rattle.rules.proofs.Tests.{both}
 use Rattle.rules.specs.Items.{isKind}
 

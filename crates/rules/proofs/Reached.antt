@@ -10,7 +10,7 @@ use borrow.Author.Tests.{ltb-false, ltb-true}
 use lib.Dec.{ltb}
 use lib.ListN.{List·getD-append, getD, length, length-append, take}
 use lib.Seq.{getD-append-seam, take-append-le, take-append-seam}
-use Rattle.record.specs.Parts.{Message}
+use Rattle.messages.specs.Parts.{Message}
 use Rattle.record.specs.Table.{Record}
 use Rattle.rules.specs.Reached.{Reached}
 use Rattle.rules.specs.Run.{played}

@@ -8,15 +8,14 @@ use Prim.Native.Nat.{ℕ}
 use borrow.Author.Tests.{eq-eqb, eqb-true}
 use lib.Dec.{eqb}
 use native.Mathlib.Omega.{arith}
-use Rattle.record.proofs.Chain.{left-of, right-of}
+use Rattle.messages.proofs.Chain.{left-of, right-of}
 use Rattle.record.proofs.Cut.{length-cut}
-use Rattle.record.specs.Lawful.{between}
-use Rattle.record.specs.Layout.{messageWidth}
-use Rattle.record.specs.Parts.{Message}
+use Rattle.messages.specs.Layout.{messageWidth}
+use Rattle.messages.specs.Parts.{Message}
 use Rattle.record.specs.Table.{Record, messages, roomOf}
-use Rattle.record.specs.Tests.{same}
-use Rattle.record.specs.declared.parts.Mark.{Mark}
-use Rattle.record.specs.declared.parts.Place.{Place}
+use Rattle.messages.specs.Tests.{between, same}
+use Rattle.messages.specs.declared.parts.Mark.{Mark}
+use Rattle.messages.specs.declared.parts.Place.{Place}
 use Rattle.rules.proofs.Agreement.{agreement}
 use Rattle.rules.proofs.Gates.{all-open, passes}
 use Rattle.rules.proofs.LawfulReached.{table-lawful}

@@ -7,15 +7,15 @@ use Prim.Native.Nat.{ℕ, _+_, _-_}
 use lib.ListN.{List·getD-append, length, length-append}
 use lib.Seq.{getD-at, take-at}
 use native.Mathlib.Omega.{arith}
-use Rattle.record.specs.Lawful.{between, buyers, sellers, within}
-use Rattle.record.specs.Layout.{AuthRequest, Initiate, Invoice, Payment}
-use Rattle.record.specs.Parts.{Message}
+use Rattle.record.specs.Lawful.{buyers, sellers, within}
+use Rattle.messages.specs.Layout.{AuthRequest, Initiate, Invoice, Payment}
+use Rattle.messages.specs.Parts.{Message}
 use Rattle.record.specs.Table.{Record, messageAt}
-use Rattle.record.specs.Tests.{all}
-use Rattle.record.specs.declared.parts.Buyer.{Buyer}
-use Rattle.record.specs.declared.parts.Mark.{Mark}
-use Rattle.record.specs.declared.parts.Place.{Place}
-use Rattle.record.specs.declared.parts.Seller.{Seller}
+use Rattle.messages.specs.Tests.{all, between}
+use Rattle.messages.specs.declared.parts.Buyer.{Buyer}
+use Rattle.messages.specs.declared.parts.Mark.{Mark}
+use Rattle.messages.specs.declared.parts.Place.{Place}
+use Rattle.messages.specs.declared.parts.Seller.{Seller}
 use Rattle.rules.proofs.Accepted.{Accepted, accepts}
 use Rattle.rules.proofs.Claims.{claimed}
 use Rattle.rules.proofs.Deeds.{member-place}

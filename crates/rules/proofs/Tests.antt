@@ -19,9 +19,8 @@ use borrow.Author.Tests.{eq-eqb, eqb-true, le-leb, leb-true}
 use lib.Dec.{eqb, leb}
 use lib.ListN.{getD, length, take}
 use lib.Seq.{split-at}
-use Rattle.record.proofs.Chain.{left-of, right-of}
-use Rattle.record.specs.Lawful.{between}
-use Rattle.record.specs.Tests.{all, same}
+use Rattle.messages.proofs.Chain.{left-of, right-of}
+use Rattle.messages.specs.Tests.{all, between, same}
 
 -- both of two tests, one of two, and the other of two
 pub both : {a b : Bool} → a ≡ true → b ≡ true → (a && b) ≡ true

@@ -7,15 +7,15 @@ use mathlib.Core.Logic.{⊎-elim}
 use mathlib.Core.Path.{_≡_, _∙_, refl, sym, ap, subst}
 use Prim.Native.Nat.{ℕ, _+_}
 use lib.ListN.{getD}
-use Rattle.record.specs.Layout.{AuthRequest, AuthResponse, Initiate, Invoice, Kind, Payment, aPayment, anInitiate, anInvoice, body, destination, invoiceSigned, maker, paymentSigned, requestBuyerSigned, requestSigned, source}
-use Rattle.record.specs.Parts.{Message, buyerAt, hashedAt, markAt, sellerAt, slipAt, slipWidth}
-use Rattle.record.specs.Signed.{buyerSignedAt, requestSignedAt}
+use Rattle.messages.specs.Layout.{AuthRequest, AuthResponse, Initiate, Invoice, Kind, Payment, aPayment, anInitiate, anInvoice, body, destination, invoiceSigned, maker, paymentSigned, requestBuyerSigned, requestSigned, source}
+use Rattle.messages.specs.Parts.{Message, buyerAt, hashedAt, markAt, sellerAt, slipAt, slipWidth}
+use Rattle.messages.specs.Signed.{buyerSignedAt, requestSignedAt}
 use Rattle.record.specs.Table.{Record, messageAt}
-use Rattle.record.specs.declared.parts.Buyer.{Buyer}
-use Rattle.record.specs.declared.parts.Mark.{Mark}
-use Rattle.record.specs.declared.parts.Seller.{Seller}
-use Rattle.record.specs.declared.signed.BuyerSigned.{BuyerSigned}
-use Rattle.record.specs.declared.signed.RequestSigned.{RequestSigned}
+use Rattle.messages.specs.declared.parts.Buyer.{Buyer}
+use Rattle.messages.specs.declared.parts.Mark.{Mark}
+use Rattle.messages.specs.declared.parts.Seller.{Seller}
+use Rattle.messages.specs.declared.signed.BuyerSigned.{BuyerSigned}
+use Rattle.messages.specs.declared.signed.RequestSigned.{RequestSigned}
 use Rattle.rules.proofs.Claims.{as-part, facts}
 use Rattle.rules.proofs.Deeds.{Taken, by-deed, item-of, named, two-named}
 use Rattle.rules.proofs.Laid.{one-kind, relaid}

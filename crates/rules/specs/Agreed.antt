@@ -6,11 +6,11 @@ use mathlib.Core.List.{List·Memᴰ}
 use mathlib.Core.Logic.{_↔_}
 use mathlib.Core.Path.{_≡_}
 use lib.ListN.{length}
-use Rattle.record.specs.Lawful.{between}
-use Rattle.record.specs.Parts.{Message}
+use Rattle.messages.specs.Tests.{between}
+use Rattle.messages.specs.Parts.{Message}
 use Rattle.record.specs.Table.{Record, messageAt}
-use Rattle.record.specs.declared.parts.Mark.{Mark}
-use Rattle.record.specs.declared.parts.Place.{Place}
+use Rattle.messages.specs.declared.parts.Mark.{Mark}
+use Rattle.messages.specs.declared.parts.Place.{Place}
 use Rattle.rules.specs.Report.{houseReply, itsInitiate, itsInvoice, itsPayment, itsRequest}
 
 -- a message stands in a record

@@ -4,7 +4,7 @@ use mathlib.Core.Bool.{Bool, _&&_}
 use mathlib.Core.List.{List, [], _∷_}
 use lib.Dec.{leb}
 use lib.ListN.{getD, length}
-use Rattle.record.specs.Layout.{AuthRequest, AuthResponse, Initiate, Invoice, Kind, Payment, filled}
+use Rattle.messages.specs.Layout.{AuthRequest, AuthResponse, Initiate, Invoice, Kind, Payment, filled}
 
 -- what the outsider takes from a message at a place: h hashed account, m mark, e slip, r drawer and draw, v invoice signature,
 -- q seller's request signature, p buyer's signature, g gateway signature

@@ -4,7 +4,7 @@ use Prim.Native.Nat.{ℕ}
 use mathlib.Core.Bool.{Bool, false, _||_, cond}
 use mathlib.Core.List.{List, [], _∷_}
 use lib.Dec.{eqb}
-use Rattle.record.specs.Layout.{
+use Rattle.messages.specs.Layout.{
   AuthRequest,
   AuthResponse,
   Initiate,
@@ -17,20 +17,20 @@ use Rattle.record.specs.Layout.{
   anInvoice,
   aPayment,
 }
-use Rattle.record.specs.Parts.{Message, ownerOf}
+use Rattle.messages.specs.Parts.{Message, ownerOf}
 use Rattle.record.specs.Table.{Record, messageAt}
-use Rattle.record.specs.declared.parts.Account.{Account}
-use Rattle.record.specs.declared.parts.Buyer.{Buyer}
-use Rattle.record.specs.declared.parts.Drawn.{Drawn}
-use Rattle.record.specs.declared.parts.Gateway.{Gateway}
-use Rattle.record.specs.declared.parts.Hashed.{Hashed}
-use Rattle.record.specs.declared.parts.Mark.{Mark}
-use Rattle.record.specs.declared.parts.Seller.{Seller}
-use Rattle.record.specs.declared.parts.Slip.{Slip}
-use Rattle.record.specs.declared.signed.BuyerSigned.{BuyerSigned}
-use Rattle.record.specs.declared.signed.InvoiceSigned.{InvoiceSigned}
-use Rattle.record.specs.declared.signed.ReplySigned.{ReplySigned}
-use Rattle.record.specs.declared.signed.RequestSigned.{RequestSigned}
+use Rattle.messages.specs.declared.parts.Account.{Account}
+use Rattle.messages.specs.declared.parts.Buyer.{Buyer}
+use Rattle.messages.specs.declared.parts.Drawn.{Drawn}
+use Rattle.messages.specs.declared.parts.Gateway.{Gateway}
+use Rattle.messages.specs.declared.parts.Hashed.{Hashed}
+use Rattle.messages.specs.declared.parts.Mark.{Mark}
+use Rattle.messages.specs.declared.parts.Seller.{Seller}
+use Rattle.messages.specs.declared.parts.Slip.{Slip}
+use Rattle.messages.specs.declared.signed.BuyerSigned.{BuyerSigned}
+use Rattle.messages.specs.declared.signed.InvoiceSigned.{InvoiceSigned}
+use Rattle.messages.specs.declared.signed.ReplySigned.{ReplySigned}
+use Rattle.messages.specs.declared.signed.RequestSigned.{RequestSigned}
 use Rattle.rules.specs.Codes.{Argument, Item, letter}
 use Rattle.rules.specs.Honest.{house, slipUnder}
 use Rattle.rules.specs.Items.{

@@ -3,7 +3,7 @@ use Prim.Native.Nat.{ℕ, _+_, _/_, _%_, _^_}
 use mathlib.Core.Bool.{Bool, cond}
 use mathlib.Core.List.{List, [], _∷_}
 use lib.Dec.{eqb}
-use Rattle.record.specs.Layout.{
+use Rattle.messages.specs.Layout.{
   anAuthRequest,
   anAuthResponse,
   anInitiate,
@@ -21,7 +21,7 @@ use Rattle.record.specs.Layout.{
   requestSlip,
   source,
 }
-use Rattle.record.specs.Parts.{
+use Rattle.messages.specs.Parts.{
   Message,
   accountAt,
   accountOf,
@@ -37,18 +37,18 @@ use Rattle.record.specs.Parts.{
   slipNumbers,
   slipWidth,
 }
-use Rattle.record.specs.Signed.{buyerSignedAt}
-use Rattle.record.specs.Tests.{same}
-use Rattle.record.specs.declared.parts.Account.{Account}
-use Rattle.record.specs.declared.parts.Buyer.{Buyer}
-use Rattle.record.specs.declared.parts.Drawn.{Drawn}
-use Rattle.record.specs.declared.parts.Gateway.{Gateway}
-use Rattle.record.specs.declared.parts.Hashed.{Hashed}
-use Rattle.record.specs.declared.parts.Mark.{Mark}
-use Rattle.record.specs.declared.parts.Place.{Place}
-use Rattle.record.specs.declared.parts.Seller.{Seller}
-use Rattle.record.specs.declared.parts.Slip.{Slip}
-use Rattle.record.specs.declared.signed.BuyerSigned.{BuyerSigned}
+use Rattle.messages.specs.Signed.{buyerSignedAt}
+use Rattle.messages.specs.Tests.{same}
+use Rattle.messages.specs.declared.parts.Account.{Account}
+use Rattle.messages.specs.declared.parts.Buyer.{Buyer}
+use Rattle.messages.specs.declared.parts.Drawn.{Drawn}
+use Rattle.messages.specs.declared.parts.Gateway.{Gateway}
+use Rattle.messages.specs.declared.parts.Hashed.{Hashed}
+use Rattle.messages.specs.declared.parts.Mark.{Mark}
+use Rattle.messages.specs.declared.parts.Place.{Place}
+use Rattle.messages.specs.declared.parts.Seller.{Seller}
+use Rattle.messages.specs.declared.parts.Slip.{Slip}
+use Rattle.messages.specs.declared.signed.BuyerSigned.{BuyerSigned}
 
 -- gateway 1 is the house
 abbrev pub house : Gateway

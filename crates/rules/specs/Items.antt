@@ -4,8 +4,9 @@ use Prim.Native.Nat.{ℕ}
 use mathlib.Core.Bool.{Bool, true, _&&_, _||_, cond}
 use mathlib.Core.List.{List, [], _∷_}
 use lib.Dec.{eqb, leb}
-use Rattle.record.specs.Lawful.{between, buyers, codes, sellers, within}
-use Rattle.record.specs.Layout.{
+use Rattle.messages.specs.Tests.{between}
+use Rattle.record.specs.Lawful.{buyers, codes, sellers, within}
+use Rattle.messages.specs.Layout.{
   AuthRequest,
   AuthResponse,
   Initiate,
@@ -22,17 +23,17 @@ use Rattle.record.specs.Layout.{
   requestSigned,
   requestSlip,
 }
-use Rattle.record.specs.Parts.{Message, drawnAt, hashedAt, markAt, slipAt}
-use Rattle.record.specs.Signed.{buyerSignedAt, invoiceSignedAt, replySignedAt, requestSignedAt}
+use Rattle.messages.specs.Parts.{Message, drawnAt, hashedAt, markAt, slipAt}
+use Rattle.messages.specs.Signed.{buyerSignedAt, invoiceSignedAt, replySignedAt, requestSignedAt}
 use Rattle.record.specs.Table.{Record, messageAt}
-use Rattle.record.specs.declared.parts.Drawn.{Drawn}
-use Rattle.record.specs.declared.parts.Hashed.{Hashed}
-use Rattle.record.specs.declared.parts.Mark.{Mark}
-use Rattle.record.specs.declared.parts.Slip.{Slip}
-use Rattle.record.specs.declared.signed.BuyerSigned.{BuyerSigned}
-use Rattle.record.specs.declared.signed.InvoiceSigned.{InvoiceSigned}
-use Rattle.record.specs.declared.signed.ReplySigned.{ReplySigned}
-use Rattle.record.specs.declared.signed.RequestSigned.{RequestSigned}
+use Rattle.messages.specs.declared.parts.Drawn.{Drawn}
+use Rattle.messages.specs.declared.parts.Hashed.{Hashed}
+use Rattle.messages.specs.declared.parts.Mark.{Mark}
+use Rattle.messages.specs.declared.parts.Slip.{Slip}
+use Rattle.messages.specs.declared.signed.BuyerSigned.{BuyerSigned}
+use Rattle.messages.specs.declared.signed.InvoiceSigned.{InvoiceSigned}
+use Rattle.messages.specs.declared.signed.ReplySigned.{ReplySigned}
+use Rattle.messages.specs.declared.signed.RequestSigned.{RequestSigned}
 use Rattle.rules.specs.Codes.{Argument, Item}
 
 abbrev pub isKind : Kind → Message → Bool

@@ -4,8 +4,8 @@ use Prim.Native.Nat.{ℕ}
 use mathlib.Core.Bool.{Bool, _&&_}
 use mathlib.Core.List.{List, [], _∷_, _++_, map}
 use lib.ListN.{length}
-use Rattle.record.specs.Layout.{filled}
-use Rattle.record.specs.Tests.{all, same}
+use Rattle.messages.specs.Layout.{filled}
+use Rattle.messages.specs.Tests.{all, same}
 use Rattle.rules.specs.Run.{played, stepWidth}
 use Rattle.rules.specs.Said.{replyRows, stepRows}
 

@@ -7,9 +7,9 @@ use mathlib.Core.Path.{_≡_}
 use lib.ListN.{getD, length}
 use Rattle.record.specs.Lawful.{buyers, sellers, within}
 use Rattle.record.specs.Table.{Record, lawfulRecord, messages, roomOf}
-use Rattle.record.specs.declared.parts.Buyer.{Buyer}
-use Rattle.record.specs.declared.parts.Place.{Place}
-use Rattle.record.specs.declared.parts.Seller.{Seller}
+use Rattle.messages.specs.declared.parts.Buyer.{Buyer}
+use Rattle.messages.specs.declared.parts.Place.{Place}
+use Rattle.messages.specs.declared.parts.Seller.{Seller}
 use Rattle.rules.specs.Agreed.{Agreed, BothOutside, HouseReplyAt, Reported}
 use Rattle.rules.specs.Report.{earlier, paymentAt, report}
 use Rattle.rules.specs.Run.{Ran, played, stepsOf}

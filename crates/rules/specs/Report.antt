@@ -4,14 +4,13 @@ use mathlib.Core.Bool.{Bool, false, _&&_, _||_, cond}
 use mathlib.Core.List.{List, [], _∷_}
 use lib.Dec.{eqb}
 use lib.ListN.{take}
-use Rattle.record.specs.Lawful.{between}
-use Rattle.record.specs.Layout.{AuthResponse, maker}
-use Rattle.record.specs.Parts.{Message, gatewayAt}
+use Rattle.messages.specs.Layout.{AuthResponse, maker}
+use Rattle.messages.specs.Parts.{Message, gatewayAt}
 use Rattle.record.specs.Table.{Record, lawfulRecord, messageAt, messages}
-use Rattle.record.specs.Tests.{every, same}
-use Rattle.record.specs.declared.parts.Mark.{Mark}
-use Rattle.record.specs.declared.parts.Place.{Place}
-use Rattle.record.specs.declared.parts.Slip.{Slip}
+use Rattle.messages.specs.Tests.{between, every, same}
+use Rattle.messages.specs.declared.parts.Mark.{Mark}
+use Rattle.messages.specs.declared.parts.Place.{Place}
+use Rattle.messages.specs.declared.parts.Slip.{Slip}
 use Rattle.rules.specs.Gates.{Gate, _unless_, through}
 use Rattle.rules.specs.Honest.{house, initiateBy, invoiceBy, paymentBy, requestBy, slipUnder}
 use Rattle.rules.specs.Items.{isKind, replySignedIn}

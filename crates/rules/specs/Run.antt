@@ -4,7 +4,7 @@ use mathlib.Core.Bool.{Bool, _&&_}
 use mathlib.Core.List.{List, [], _∷_, _++_}
 use lib.Dec.{eqb, leb}
 use lib.ListN.{drop, length}
-use Rattle.record.specs.Table.{Record, cut, roomOf, whole}
+use Rattle.record.specs.Table.{Record, cut, flat, roomOf, whole}
 use Rattle.rules.specs.Gates.{Gate, _unless_, through}
 use Rattle.rules.specs.Step.{Step, judge, numberOf, recordAfter}
 
@@ -17,11 +17,6 @@ unfoldable pub verdicts : ℕ → ℕ → Record → List Step → List ℕ
 verdicts answers room R [] = []
 verdicts answers room R (s ∷ ss) =
     numberOf (judge answers room R s) ∷ verdicts answers room (recordAfter R (judge answers room R s)) ss
-
--- the messages of a record, one after the other
-abbrev pub flat : Record → List ℕ
-flat [] = []
-flat (x ∷ R) = x ++ flat R
 
 -- written over the front of a table; later numbers stay
 abbrev pub over : List ℕ → List ℕ → List ℕ

@@ -4,9 +4,9 @@ use Prim.Native.Nat.{ℕ, _+_}
 use mathlib.Core.Bool.{cond}
 use mathlib.Core.List.{List, [], _∷_}
 use lib.ListN.{length, take}
-use Rattle.record.specs.Parts.{Message}
+use Rattle.messages.specs.Parts.{Message}
 use Rattle.record.specs.Table.{Record}
-use Rattle.record.specs.declared.parts.Mark.{Mark}
+use Rattle.messages.specs.declared.parts.Mark.{Mark}
 use Rattle.rules.specs.Report.{houseReply, replyMark, reportOn}
 use Rattle.rules.specs.Step.{Step, judge, numberOf, placeOf, recordAfter}
 

@@ -4,13 +4,13 @@ use Prim.Native.Nat.{ℕ, _<_}
 use mathlib.Core.List.{List, [], _∷_, _++_}
 use mathlib.Core.Path.{_≡_}
 use lib.ListN.{length}
-use Rattle.record.specs.Layout.{filled}
-use Rattle.record.specs.Parts.{Message, accountOf}
+use Rattle.messages.specs.Layout.{filled}
+use Rattle.messages.specs.Parts.{Message, accountOf}
 use Rattle.record.specs.Table.{Record, messageAt}
-use Rattle.record.specs.declared.parts.Buyer.{Buyer}
-use Rattle.record.specs.declared.parts.Mark.{Mark}
-use Rattle.record.specs.declared.parts.Place.{Place}
-use Rattle.record.specs.declared.parts.Seller.{Seller}
+use Rattle.messages.specs.declared.parts.Buyer.{Buyer}
+use Rattle.messages.specs.declared.parts.Mark.{Mark}
+use Rattle.messages.specs.declared.parts.Place.{Place}
+use Rattle.messages.specs.declared.parts.Seller.{Seller}
 use Rattle.rules.specs.Agreed.{Reported}
 use Rattle.rules.specs.Honest.{codeFor, house, replyBy}
 use Rattle.rules.specs.Report.{itsInitiate, itsInvoice, itsPayment, itsRequest, reportAt}

@@ -5,13 +5,13 @@ use mathlib.Core.Bool.{Bool, cond}
 use mathlib.Core.List.{List, [], _∷_, _++_}
 use lib.Dec.{ltb}
 use lib.ListN.{drop, getD, length}
-use Rattle.record.specs.Layout.{AuthRequest, Initiate, Invoice, Payment}
-use Rattle.record.specs.Parts.{Message}
+use Rattle.messages.specs.Layout.{AuthRequest, Initiate, Invoice, Payment}
+use Rattle.messages.specs.Parts.{Message}
 use Rattle.record.specs.Table.{Record, lawfulRecord, messageAt, messages, roomOf, withMessage}
-use Rattle.record.specs.Tests.{all}
-use Rattle.record.specs.declared.parts.Buyer.{Buyer}
-use Rattle.record.specs.declared.parts.Place.{Place}
-use Rattle.record.specs.declared.parts.Seller.{Seller}
+use Rattle.messages.specs.Tests.{all}
+use Rattle.messages.specs.declared.parts.Buyer.{Buyer}
+use Rattle.messages.specs.declared.parts.Place.{Place}
+use Rattle.messages.specs.declared.parts.Seller.{Seller}
 use Rattle.rules.specs.Codes.{
   Argument,
   Deed,

@@ -8,8 +8,8 @@ use mathlib.Core.Path.{_≡_}
 use lib.ListN.{length, take}
 use Rattle.record.specs.Lawful.{buyers, lawful, sellers, within}
 use Rattle.record.specs.Table.{Record, lawfulRecord, messages, mostRoom, roomOf}
-use Rattle.record.specs.Tests.{all}
-use Rattle.record.specs.declared.parts.Place.{Place}
+use Rattle.messages.specs.Tests.{all}
+use Rattle.messages.specs.declared.parts.Place.{Place}
 use Rattle.rules.specs.Agreed.{Agreed, BothOutside, HouseReplyAt, Reported}
 use Rattle.rules.specs.Promised.{Kept}
 use Rattle.rules.specs.Reached.{HoldsReached, Reached}

@@ -9,18 +9,18 @@ use native.Mathlib.Omega.{arith}
 use lib.ListN.{drop, drop-of-length-le, getD, length, length-append, length-drop, length-set, set, take, take-append-drop}
 use lib.Seq.{drop-at, drop-cons, drop-drop, getD-drop, length-take-le, paste, paste-suc, paste-zero, take-add, take-all}
 use Rattle.record.proofs.Cut.{cut-at, length-cut, messages-with}
-use Rattle.record.specs.Layout.{messageWidth}
-use Rattle.record.specs.Parts.{Message}
+use Rattle.messages.specs.Layout.{messageWidth}
+use Rattle.messages.specs.Parts.{Message}
 use lib.Dec.{eqb, leb}
-use Rattle.record.specs.Table.{Record, cut, messages, mostRoom, roomOf, whole, withMessage}
-use Rattle.rules.specs.Run.{flat, over, played, stepCount, stepWidth, stepsOf, verdicts}
+use Rattle.record.specs.Table.{Record, cut, flat, messages, mostRoom, roomOf, whole, withMessage}
+use Rattle.rules.specs.Run.{over, played, stepCount, stepWidth, stepsOf, verdicts}
 use Rattle.rules.specs.Step.{Outcome, Step, accepted, judge, numberOf, recordAfter, refused, tableAfter}
 use Rattle.runs.specs.Ran.{OnePlayed, Plays, countAfter}
 use Rattle.step.proofs.Outcomes.{had-room}
 use Rattle.step.specs.Answer.{Answered}
 use Rattle.step.specs.declared.judge.Answer.{Answer}
 use Rattle.step.specs.declared.judge.Answer.the-variants.{Accepted, Refused}
-use Rattle.record.specs.declared.parts.Place.{Place}
+use Rattle.messages.specs.declared.parts.Place.{Place}
 
 pub one-accepted : (n : ℕ) (t : List ℕ) (o : Outcome) (p : Place) (left : List ℕ) → (o ≡ refused 0 → ⊥) → Answered n t o (Accepted p) left
     → OnePlayed n t o 0 (p .0) left

@@ -6,12 +6,12 @@ use Prim.Native.Nat.{ℕ, zero-le}
 use native.Mathlib.Omega.{arith}
 use lib.Dec.{leb}
 use lib.ListN.{length}
-use Rattle.record.specs.Table.{roomOf, whole}
-use Rattle.rules.specs.Run.{Ran as RanOf, flat, over, played, run, stepCount, stepsOf, verdicts, wholeSteps}
+use Rattle.record.specs.Table.{flat, roomOf, whole}
+use Rattle.rules.specs.Run.{Ran as RanOf, over, played, run, stepCount, stepsOf, verdicts, wholeSteps}
 use Rattle.runs.specs.Ran.{Leaves, Plays}
 use Rattle.runs.specs.declared.run.Ran.the-variants.{Messages, Refused}
-use Rattle.step.proofs.Outcomes.{most}
-use Rattle.step.proofs.Picks.{no, yes}
+use Rattle.record.proofs.Whole.{most}
+use Rattle.messages.proofs.Picks.{no, yes}
 
 module _ (answers : ℕ) (t xs bytes : List ℕ) where
   nothing : ℕ → RanOf

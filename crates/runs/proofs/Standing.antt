@@ -9,10 +9,11 @@ use native.Mathlib.Omega.{arith}
 use lib.Dec.{eqb}
 use lib.ListN.{drop, drop-of-length-le, getD, length, take}
 use lib.Seq.{drop-cons, drop-drop}
-use Rattle.record.specs.Layout.{messageWidth}
-use Rattle.record.specs.Parts.{Message}
-use Rattle.record.specs.Table.{Record, cut, messageIn, messages}
-use Rattle.record.specs.Tests.{same}
+use Rattle.messages.specs.Layout.{messageWidth}
+use Rattle.messages.specs.Parts.{Message}
+use Rattle.record.proofs.Cut.{cut-next}
+use Rattle.record.specs.Table.{Record, messageIn, messages}
+use Rattle.messages.specs.Tests.{same}
 use Rattle.rules.specs.Report.{stands}
 
 pub unlike : (a b : List ℕ) → (length a ≡ length b → ⊥) → false ≡ same a b
@@ -43,25 +44,10 @@ stands-more x (z ∷ R) y =
     ∙ ap (λ (b : Bool). b || stands x R) (or-comm (same z x) (same y x))
     ∙ or-assoc (same y x) (same z x) (stands x R)
 
-cut-more : (w n : ℕ) (t : List ℕ) → cut w (suc n) t ≡ cut w n t ++ (take w (drop (n * w) t) ∷ [])
-cut-more w zero t = ap (λ (k : ℕ). take w (drop k t) ∷ []) (sym (zero-mul w))
-cut-more w (suc n) t =
-    ap (λ (z : List (List ℕ)). take w t ∷ z)
-    (cut-more w n (drop w t)
-    ∙ ap (λ (k : List ℕ). cut w n (drop w t) ++ (take w k ∷ []))
-    (drop-drop (n * w) w t ∙ ap (λ (j : ℕ). drop j t) (add-comm w (n * w) ∙ sym (suc-mul n w))))
-
 pub stands-next : (x : Message) (t : List ℕ) (i : ℕ) {m : Message} {found seen : Bool} → m ≡ messageIn t (record { 0 = i + 1 }) → found ≡ same m x
     → seen ≡ stands x (messages i t) → (found || seen) ≡ stands x (messages (i + 1) t)
 stands-next x t i {m} e p q =
     let k : i + 1 - 1 ≡ i = omega arith in
     ap₂ _||_ (p ∙ ap (λ (z : Message). same z x) (e ∙ ap (λ (j : ℕ). take messageWidth (drop (j * messageWidth) t)) k)) q
     ∙ sym (stands-more x (messages i t) (take messageWidth (drop (i * messageWidth) t)))
-    ∙ sym (ap (stands x) (ap (λ (j : ℕ). messages j t) (add-one i) ∙ cut-more messageWidth i t))
-
--- the first messages of the first messages
-pub take-messages : (k n : ℕ) (t : List ℕ) → k ≤ n → take k (messages n t) ≡ messages k t
-take-messages zero n t h = refl
-take-messages (suc k) zero t h = absurd (not-suc-le-zero h)
-take-messages (suc k) (suc n) t h =
-    ap (λ (z : Record). take messageWidth t ∷ z) (take-messages k n (drop messageWidth t) (le-of-suc-le-suc h))
+    ∙ sym (ap (stands x) (ap (λ (j : ℕ). messages j t) (add-one i) ∙ cut-next messageWidth i t))

@@ -3,8 +3,8 @@ use mathlib.Core.List.{List, []}
 use mathlib.Core.Path.{_≡_}
 use Prim.Native.Nat.{ℕ, _+_, _≤_}
 use lib.ListN.{length}
-use Rattle.record.specs.Table.{Record, mostRoom, roomOf}
-use Rattle.rules.specs.Run.{Ran as RanOf, flat, over, played, stepsOf, verdicts}
+use Rattle.record.specs.Table.{Record, flat, mostRoom, roomOf}
+use Rattle.rules.specs.Run.{Ran as RanOf, over, played, stepsOf, verdicts}
 use Rattle.rules.specs.Step.{Outcome, accepted, numberOf, refused, tableAfter}
 use Rattle.runs.specs.declared.run.Ran.{Ran}
 use Rattle.runs.specs.declared.run.Ran.the-variants.{Messages, Refused}

@@ -1,32 +1,32 @@
 // The report on a reply: whether the four messages of its payment stand earlier in the record. One look through the record.
-use record::build::auth_request;
-use record::build::initiate;
-use record::build::invoice;
-use record::build::payment;
-use record::layout::AUTH_RESPONSE;
-use record::layout::KIND;
-use record::layout::MAKER;
-use record::layout::MESSAGE_WIDTH;
-use record::layout::REPLY_SIGNED;
-use record::parts::Gateway;
-use record::parts::Mark;
-use record::parts::Place;
-use record::parts::Slip;
-use record::signed::BuyerSigned;
-use record::signed::InvoiceSigned;
-use record::signed::RequestSigned;
-use record::signed::reply_signed_at;
+use messages::build::auth_request;
+use messages::build::initiate;
+use messages::build::invoice;
+use messages::build::payment;
+use messages::layout::AUTH_RESPONSE;
+use messages::layout::KIND;
+use messages::layout::MAKER;
+use messages::layout::MESSAGE_WIDTH;
+use messages::layout::REPLY_SIGNED;
+use messages::parts::Gateway;
+use messages::parts::HOUSE;
+use messages::parts::Mark;
+use messages::parts::Place;
+use messages::parts::Slip;
+use messages::signed::BuyerSigned;
+use messages::signed::InvoiceSigned;
+use messages::signed::RequestSigned;
+use messages::signed::reply_signed_at;
 use record::table::is_lawful_record;
 use record::table::message;
-use step::honest::HOUSE;
 ghost use mathlib.Core.Bool.{_||_};
 ghost use mathlib.Core.List.{[], _∷_};
 ghost use mathlib.Core.Path.{_≡_};
 ghost use Prim.Native.Nat.{_*_, _≤_};
 ghost use lib.ListN.{length};
-ghost use Rattle.record.specs.Layout.{messageWidth};
+ghost use Rattle.messages.specs.Layout.{messageWidth};
 ghost use Rattle.record.specs.Table.{messages};
-ghost use Rattle.record.specs.Tests.{every, same};
+ghost use Rattle.messages.specs.Tests.{every, same};
 ghost use Rattle.rules.specs.Report.{
   agreed as agreedOf,
   houseReply,

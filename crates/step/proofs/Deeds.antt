@@ -1,5 +1,4 @@
--- What the code of a step does: the rows of the forged kinds are neighbours in the table. And what is ready for a record is ready for its
--- whole table.
+-- What the code of a step does: the rows of the forged kinds are neighbours in the table.
 use mathlib.Core.Bool.{Bool, true, _&&_}
 use mathlib.Core.List.{List, [], _∷_, map}
 use mathlib.Core.Path.{_≡_, _∙_, refl, sym, ap, subst}
@@ -10,17 +9,17 @@ use borrow.Author.Tests.{le-leb, leb-true}
 use lib.Dec.{leb}
 use lib.ListN.{List·getD-map, drop, getD, getD-replicate, length, replicate, take}
 use lib.Seq.{getD-drop, getD-take}
-use Rattle.record.proofs.Chain.{left-of, right-of, skip}
-use Rattle.record.specs.Layout.{Kind, messageWidth}
-use Rattle.record.specs.Parts.{Message}
+use Rattle.messages.proofs.Chain.{left-of, right-of, skip}
+use Rattle.messages.specs.Layout.{Kind, messageWidth}
+use Rattle.messages.specs.Parts.{Message}
 use Rattle.record.specs.Table.{messages, roomOf}
 use Rattle.rules.specs.Codes.{Argument, Deed, Row, forges, row, rowOf, rows, starts}
 use Rattle.rules.specs.Honest.{Claim}
 use Rattle.rules.specs.Items.{eachArgument, placed}
 use Rattle.rules.specs.Step.{added, argumentsOf, claims, codeOf}
 use Rattle.step.specs.Draft.{DraftOf, Drafted}
-use Rattle.step.specs.Outside.{forgedIn}
-use Rattle.step.specs.Ready.{Ready}
+use Rattle.forged.specs.Outside.{forgedIn}
+use Rattle.arguments.specs.Ready.{Ready}
 use Rattle.step.specs.declared.drafts.Draft.{Draft}
 
 abbrev deedOf : Row → Deed
@@ -55,30 +54,3 @@ forged-draft answers n t s k {d} e p f =
     (λ (z : Deed). DraftOf (claims (messages n t) (rowOf (codeOf s) .takes) (argumentsOf s) z)
     (added (messages n t) (rowOf (codeOf s) .takes) (argumentsOf s) answers z) d)
     (sym e) (as-message p f)
-
--- places up to n are places of the table
-wider : (n m : ℕ) → n ≤ m → (k : Argument) (x : ℕ) → placed n k x ≡ true → placed m k x ≡ true
-wider n m h Argument.unused x e = e
-wider n m h Argument.B x e = e
-wider n m h Argument.S x e = e
-wider n m h Argument.c x e = e
-wider n m h Argument.a x e = le-leb _ _ (le-trans (leb-true _ _ e) h)
-wider n m h (Argument.the k) x e =
-    sym (skip (left-of (leb 1 x) (leb x n) e) (sym (le-leb _ _ (le-trans (leb-true _ _ (right-of (leb 1 x) (leb x n) e)) h))))
-wider n m h (Argument.at i) x e =
-    sym (skip (left-of (leb 1 x) (leb x n) e) (sym (le-leb _ _ (le-trans (leb-true _ _ (right-of (leb 1 x) (leb x n) e)) h))))
-
-all-wider : (n m : ℕ) → n ≤ m → (ks : List Argument) (xs : List ℕ) → eachArgument (placed n) ks xs ≡ true → eachArgument (placed m) ks xs ≡ true
-all-wider n m h [] xs e = refl
-all-wider n m h (k ∷ ks) [] e =
-    sym (skip (wider n m h k 0 (left-of (placed n k 0) _ e)) (sym (all-wider n m h ks [] (right-of (placed n k 0) _ e))))
-all-wider n m h (k ∷ ks) (x ∷ xs) e =
-    sym (skip (wider n m h k x (left-of (placed n k x) _ e)) (sym (all-wider n m h ks xs (right-of (placed n k x) _ e))))
-
-pub for-table : {n : ℕ} {t s : List ℕ} → Ready n t s → Ready (roomOf t) t s
-for-table {n} {t} {s} ready =
-    record {
-      known = ready .known;
-      room = omega arith;
-      places = all-wider n (roomOf t) (omega (arith, ready .room)) (rowOf (codeOf s) .takes) (argumentsOf s) (ready .places);
-    }

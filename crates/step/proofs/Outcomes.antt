@@ -7,23 +7,23 @@ use native.Mathlib.Omega.{arith}
 use borrow.Author.Tests.{leb-true, ltb-true}
 use lib.Dec.{eqb, leb, ltb}
 use lib.ListN.{length}
-use Rattle.record.proofs.Chain.{left-of, right-of}
+use Rattle.messages.proofs.Chain.{left-of, right-of}
 use Rattle.record.proofs.Cut.{length-cut}
-use Rattle.record.specs.Layout.{messageWidth}
-use Rattle.record.specs.Parts.{Message}
+use Rattle.messages.specs.Layout.{messageWidth}
+use Rattle.messages.specs.Parts.{Message}
 use Rattle.record.specs.Lawful.{lawful}
 use Rattle.record.specs.Table.{lawfulRecord, messages, mostRoom, roomOf, whole, withMessage}
-use Rattle.record.specs.Tests.{all}
+use Rattle.messages.specs.Tests.{all}
 use Rattle.rules.specs.Codes.{known, rowOf}
 use Rattle.rules.specs.Honest.{holds}
 use Rattle.rules.specs.Items.{eachArgument, holding, inRange, placed}
 use Rattle.rules.specs.Step.{Outcome, accepted, added, argumentsOf, claims, codeOf, judge, judgeRow, judgeTable, numberOf, placeOf, refused}
-use Rattle.step.proofs.Lowest.{three}
-use Rattle.step.proofs.Picks.{no, yes}
+use Rattle.arguments.proofs.Lowest.{three}
+use Rattle.messages.proofs.Picks.{no, yes}
 use Rattle.step.specs.Answer.{Answered}
 use Rattle.step.specs.Draft.{DraftOf, Drafted}
-use Rattle.step.specs.Faults.{faults}
-use Rattle.step.specs.Ready.{Known, Ready}
+use Rattle.arguments.specs.Faults.{faults}
+use Rattle.arguments.specs.Ready.{Known, Ready}
 use Rattle.step.specs.declared.drafts.Draft.{Draft}
 use Rattle.step.specs.declared.judge.Answer.{Answer}
 use Rattle.step.specs.declared.judge.Answer.the-variants.{Accepted, Refused}
@@ -53,10 +53,6 @@ all-open false b c e = absurd (omega arith)
 all-open true false c e = absurd (omega arith)
 all-open true true false e = absurd (omega arith)
 all-open true true true e = (refl, refl, refl)
-
--- a whole table has room for at most 512
-pub most : (t : List ℕ) → whole t ≡ true → length t ≤ mostRoom * messageWidth
-most t e = leb-true _ _ (right-of (eqb (length t % messageWidth) 0) (leb (length t) (mostRoom * messageWidth)) e)
 
 module _ (answers n : ℕ) (t s : List ℕ) where
   ranged : Bool
@@ -144,12 +140,6 @@ pub lawful-judged : (answers n : ℕ) (t s : List ℕ) → lawfulRecord n t ≡ 
 unfolding judgeTable
 lawful-judged answers n t s e = yes _ e refl
 
-pub lawful-whole : (n : ℕ) (t : List ℕ) → lawfulRecord n t ≡ true → whole t ≡ true
-lawful-whole n t e = left-of (whole t) _ e
-
-pub lawful-room : (n : ℕ) (t : List ℕ) → lawfulRecord n t ≡ true → n ≤ roomOf t
-lawful-room n t e = leb-true _ _ (left-of (leb n (roomOf t)) _ (right-of (whole t) (leb n (roomOf t) && all lawful (messages n t)) e))
-
 -- no step is refused with 0
 six-gates : (a b c d e f : Bool) (m : Message)
     → cond a (cond b (cond c (cond d (cond e (cond f (accepted m) (refused 7)) (refused 6)) (refused 5)) (refused 4)) (refused 3)) (refused 2)
@@ -194,7 +184,3 @@ had-room answers n t s x e =
     (six-open (known (codeOf s)) (eachArgument inRange ks xs) (eachArgument (placed (length R)) ks xs) (eachArgument (holding R) ks xs)
     (all holds (claims R ks xs (rowOf (codeOf s) .deed))) (ltb (length R) (roomOf t)) (added R ks xs answers (rowOf (codeOf s) .deed)) x e) in
     subst (λ (k : ℕ). k < roomOf t) (length-cut messageWidth n t) h
-
--- a place with room is one of 512
-pub under-most : (n : ℕ) (t : List ℕ) → whole t ≡ true → n < roomOf t → n < mostRoom
-under-most n t e h = omega (arith, most t e)

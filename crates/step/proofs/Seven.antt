@@ -9,20 +9,20 @@ use native.Mathlib.Omega.{arith}
 use borrow.Author.Tests.{leb-true, not-false, not-true}
 use lib.Dec.{leb}
 use lib.ListN.{getD, length}
-use Rattle.record.proofs.Chain.{left-of, right-of}
+use Rattle.messages.proofs.Chain.{left-of, right-of}
 use Rattle.record.proofs.Cut.{message-at}
-use Rattle.record.specs.Layout.{messageWidth}
-use Rattle.record.specs.Parts.{Message}
+use Rattle.messages.specs.Layout.{messageWidth}
+use Rattle.messages.specs.Parts.{Message}
 use Rattle.record.specs.Table.{messageAt, messageIn, messages}
-use Rattle.record.specs.Tests.{all}
+use Rattle.messages.specs.Tests.{all}
 use Rattle.rules.specs.Codes.{Argument, rowOf}
 use Rattle.rules.specs.Honest.{Claim, holds}
 use Rattle.rules.specs.Items.{eachArgument, placed}
 use Rattle.rules.specs.Step.{argumentsOf, codeOf}
-use Rattle.step.proofs.Found.{in-table}
-use Rattle.step.proofs.Takes.{argument-at, six, six-arguments}
+use Rattle.arguments.proofs.Places.{in-table}
+use Rattle.arguments.proofs.Takes.{argument-at, six, six-arguments}
 use Rattle.step.specs.Draft.{DraftOf, Drafted}
-use Rattle.step.specs.Ready.{Known, Ready}
+use Rattle.arguments.specs.Ready.{Known, Ready}
 use Rattle.step.specs.declared.drafts.Draft.{Draft}
 
 written-out : List ℕ → List ℕ

@@ -1,22 +1,22 @@
 // What a step would add, by its code: one match on the 37 codes, with ranges for the forged kinds.
-use crate::forged::forge_initiate;
-use crate::forged::forge_invoice;
-use crate::forged::forge_payment;
-use crate::forged::forge_request;
-use crate::forged::forge_response;
-use crate::honest::asked;
-use crate::honest::invoiced;
-use crate::honest::may_ask;
-use crate::honest::may_invoice;
-use crate::honest::may_pay;
-use crate::honest::may_reply;
-use crate::honest::paid;
-use crate::honest::replied;
-use crate::honest::started;
-use record::layout::MESSAGE_WIDTH;
-use record::parts::Buyer;
-use record::parts::Place;
-use record::parts::Seller;
+use forged::added::forge_initiate;
+use forged::added::forge_invoice;
+use forged::added::forge_payment;
+use forged::added::forge_request;
+use forged::added::forge_response;
+use honest::added::asked;
+use honest::added::invoiced;
+use honest::added::paid;
+use honest::added::replied;
+use honest::added::started;
+use honest::allowed::may_ask;
+use honest::allowed::may_invoice;
+use honest::allowed::may_pay;
+use honest::allowed::may_reply;
+use messages::layout::MESSAGE_WIDTH;
+use messages::parts::Buyer;
+use messages::parts::Place;
+use messages::parts::Seller;
 use record::table::message;
 ghost use mathlib.Core.Bool.{false};
 ghost use mathlib.Core.List.{[]};
@@ -25,7 +25,7 @@ ghost use Prim.Native.Nat.{ℕ, _<_};
 ghost use Rattle.record.specs.Table.{roomOf};
 ghost use Rattle.rules.specs.Step.{codeOf};
 ghost use Rattle.step.specs.Draft.{DraftOf, Drafted};
-ghost use Rattle.step.specs.Ready.{Ready};
+ghost use Rattle.arguments.specs.Ready.{Ready};
 
 // The message is what the step adds where its condition holds; else it says nothing.
 pub struct Draft {

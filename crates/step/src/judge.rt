@@ -1,9 +1,9 @@
 // One step: judged against a record that is known to be lawful, as in a run, and against any table, where refusal 1 comes first.
-use crate::arguments::MOST_CODE;
 use crate::drafts::drafted;
-use crate::faults::FINE;
-use crate::faults::first_fault;
-use record::parts::Place;
+use arguments::codes::MOST_CODE;
+use arguments::faults::FINE;
+use arguments::faults::first_fault;
+use messages::parts::Place;
 use record::table::is_lawful_record;
 use record::table::room;
 use record::table::write;

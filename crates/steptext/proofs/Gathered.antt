@@ -10,11 +10,11 @@ use native.Mathlib.Omega.{arith}
 use lib.Dec.{leb, ltb}
 use lib.ListN.{drop, drop-of-length-le, length, length-append, length-map, length-replicate, replicate, take}
 use lib.Seq.{length-take-le, take-at}
-use Rattle.record.proofs.Chain.{left-of, right-of}
-use Rattle.record.specs.Layout.{filled}
-use Rattle.record.specs.Table.{withNumbers}
-use Rattle.record.specs.Tests.{all}
-use Rattle.rules.specs.Run.{flat, mostSteps, stepWidth}
+use Rattle.messages.proofs.Chain.{left-of, right-of}
+use Rattle.messages.specs.Layout.{filled}
+use Rattle.record.specs.Table.{flat, withNumbers}
+use Rattle.messages.specs.Tests.{all}
+use Rattle.rules.specs.Run.{mostSteps, stepWidth}
 use Rattle.rules.specs.Step.{Step}
 use Rattle.steptext.proofs.Parted.{line-within, lines-from}
 use Rattle.steptext.specs.Read.{Reading, countOf, readSteps, says, stepsIn, tooLong, unreadable}

@@ -9,9 +9,9 @@ use native.Mathlib.Omega.{arith}
 use lib.Dec.{eqb, leb}
 use lib.ListN.{drop, drop-of-length-le, getD, length, length-append, length-drop, length-map, length-take, replicate, set, take}
 use lib.Seq.{drop-drop, drop-nil, set-at, take-all, take-nil}
-use Rattle.record.proofs.Chain.{last, left-of, skip}
-use Rattle.record.specs.Layout.{filled}
-use Rattle.record.specs.Tests.{all, every, same}
+use Rattle.messages.proofs.Chain.{last, left-of, skip}
+use Rattle.messages.specs.Layout.{filled}
+use Rattle.messages.specs.Tests.{all, every, same}
 use Rattle.rules.specs.Run.{stepWidth}
 use Rattle.steptext.proofs.Parted.{before-within, first-part, only-part}
 use Rattle.steptext.proofs.Values.{fails}

@@ -10,9 +10,9 @@ use native.Mathlib.Omega.{arith}
 use lib.Dec.{eqb, leb}
 use lib.ListN.{drop, drop-of-length-le, getD, length}
 use lib.Seq.{drop-cons}
-use Rattle.record.proofs.Chain.{right-of, skip}
-use Rattle.record.specs.Lawful.{between}
-use Rattle.record.specs.Tests.{all}
+use Rattle.messages.proofs.Chain.{right-of, skip}
+use Rattle.messages.specs.Tests.{between}
+use Rattle.messages.specs.Tests.{all}
 use Rattle.steptext.specs.Text.{Text, before, digit0, isDigit, valueFrom, valueOf}
 
 -- the byte at a position is the first of what follows it

@@ -7,9 +7,9 @@ use borrow.Author.Tests.{le-leb, lt-leb}
 use native.Mathlib.Omega.{arith}
 use lib.Dec.{leb}
 use lib.ListN.{drop, drop-of-length-le, getD, length}
-use Rattle.record.proofs.Chain.{last, skip}
-use Rattle.record.specs.Lawful.{between}
-use Rattle.record.specs.Tests.{all, every}
+use Rattle.messages.proofs.Chain.{last, skip}
+use Rattle.messages.specs.Tests.{between}
+use Rattle.messages.specs.Tests.{all, every}
 use Rattle.steptext.proofs.Scans.{Reading, split-digits}
 use Rattle.steptext.specs.Number.{numberIn}
 use Rattle.steptext.specs.Text.{Text, digit0, isDigit, isNumber, mostDigits, mostNumber, noNeedless0, valueFrom, valueOf}

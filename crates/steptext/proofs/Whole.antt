@@ -8,8 +8,8 @@ use native.Mathlib.Nat.{zero-add}
 use native.Mathlib.Omega.{arith}
 use lib.Dec.{leb}
 use lib.ListN.{drop, length, take}
-use Rattle.record.specs.Table.{withNumbers}
-use Rattle.rules.specs.Run.{flat, mostSteps, over, stepWidth}
+use Rattle.record.specs.Table.{flat, withNumbers}
+use Rattle.rules.specs.Run.{mostSteps, over, stepWidth}
 use Rattle.steptext.proofs.Parted.{line-within, lines-from}
 use Rattle.steptext.proofs.Said.{read-by, unread-by}
 use Rattle.steptext.specs.Read.{

@@ -4,7 +4,8 @@ use mathlib.Core.Bool.{Bool, _&&_, cond}
 use mathlib.Core.List.{List, [], _∷_, _++_}
 use lib.Dec.{leb, ltb}
 use lib.ListN.{length}
-use Rattle.rules.specs.Run.{flat, mostSteps, over, stepWidth}
+use Rattle.record.specs.Table.{flat}
+use Rattle.rules.specs.Run.{mostSteps, over, stepWidth}
 use Rattle.rules.specs.Step.{Step}
 use Rattle.steptext.specs.Text.{Text, answersIn, isAnswersLine, isStepLine, lines, stepIn}
 

@@ -4,8 +4,8 @@ use mathlib.Core.Bool.{true, false, cond}
 use mathlib.Core.List.{List, [], _∷_, map}
 use lib.Dec.{leb}
 use lib.ListN.{length, replicate}
-use Rattle.record.specs.Layout.{filled}
-use Rattle.record.specs.Tests.{all, every}
+use Rattle.messages.specs.Layout.{filled}
+use Rattle.messages.specs.Tests.{all, every}
 use Rattle.rules.specs.Run.{stepWidth}
 use Rattle.steptext.specs.Text.{Text, answersIn, body, isAnswersLine, isNumber, isStepLine, parts, stepIn, valueOf}
 use Rattle.steptext.specs.declared.numbers.Number.{Number}

@@ -4,9 +4,9 @@ use mathlib.Core.Bool.{Bool, _&&_, _||_, cond, not}
 use mathlib.Core.List.{List, [], _∷_, map}
 use lib.Dec.{eqb, leb}
 use lib.ListN.{drop, getD, length, take}
-use Rattle.record.specs.Lawful.{between}
-use Rattle.record.specs.Layout.{filled}
-use Rattle.record.specs.Tests.{all, every, same}
+use Rattle.messages.specs.Tests.{between}
+use Rattle.messages.specs.Layout.{filled}
+use Rattle.messages.specs.Tests.{all, every, same}
 use Rattle.rules.specs.Run.{stepWidth}
 use Rattle.rules.specs.Step.{Step}
 

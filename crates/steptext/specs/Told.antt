@@ -3,7 +3,8 @@ use mathlib.Core.List.{List}
 use mathlib.Core.Path.{_≡_}
 use Prim.Native.Nat.{ℕ, _*_, _+_, _≤_}
 use lib.ListN.{length, take}
-use Rattle.rules.specs.Run.{flat, mostSteps, stepWidth}
+use Rattle.record.specs.Table.{flat}
+use Rattle.rules.specs.Run.{mostSteps, stepWidth}
 use Rattle.steptext.specs.Read.{Reading, answersOf, countOf, lineOf, numberOf, stepsIn, tableAfter}
 use Rattle.steptext.specs.declared.read.TextRead.{TextRead}
 use Rattle.steptext.specs.declared.read.TextRead.the-variants.{Says, TooLong, Unreadable}

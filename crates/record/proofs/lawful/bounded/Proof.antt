@@ -1,7 +1,7 @@
 -- `record::lawful::bounded` meets its promise.
 use borrow.Author.Tests.{le-leb, lt-leb}
 use mathlib.Core.Path.{refl}
-use Rattle.record.proofs.Chain.{skip, stop}
+use Rattle.messages.proofs.Chain.{skip, stop}
 use Rattle.record.proofs.lawful.bounded.Statement.{statement}
 use Rattle.record.proofs.lawful.bounded.Tie as tie
 

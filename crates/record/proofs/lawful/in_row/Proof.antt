@@ -7,10 +7,11 @@ use mathlib.Core.List.{List, [], map}
 use mathlib.Core.Path.{_∙_, _≡_, ap, ap₂, refl, subst, sym}
 use native.Mathlib.Nat.{le-of-eq}
 use native.Mathlib.Omega.{arith}
-use Rattle.record.proofs.Chain.{goes-on, leaves}
-use Rattle.record.proofs.Rows.{even, even-at, fits-from, flat, numbered}
+use Rattle.messages.proofs.Chain.{goes-on, leaves}
+use Rattle.record.specs.Table.{flat}
+use Rattle.record.proofs.Rows.{even, even-at, fits-from, numbered}
 use Rattle.record.specs.Lawful.{Range, accounts, buyers, codes, draws, fits, gateways, kindRanges, kinds, letter, rangeLettered, sellers, unused, within}
-use Rattle.record.specs.Layout.{messageWidth}
+use Rattle.messages.specs.Layout.{messageWidth}
 use Rattle.record.proofs.lawful.in_row.Statement.{statement}
 use Rattle.record.proofs.lawful.in_row.Tie as tie
 

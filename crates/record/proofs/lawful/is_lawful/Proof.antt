@@ -7,9 +7,9 @@ use mathlib.Core.Bool.{false}
 use mathlib.Core.List.{List, [], _∷_}
 use mathlib.Core.Path.{_∙_, _≡_, ap, refl, sym}
 use native.Mathlib.Omega.{arith}
-use Rattle.record.proofs.Chain.{skip, stop}
+use Rattle.messages.proofs.Chain.{skip, stop}
 use Rattle.record.specs.Lawful.{Range, fits, kindRanges}
-use Rattle.record.specs.Layout.{kindOf, messageWidth}
+use Rattle.messages.specs.Layout.{kindOf, messageWidth}
 use Rattle.record.proofs.lawful.is_lawful.Statement.{statement}
 use Rattle.record.proofs.lawful.is_lawful.Tie as tie
 

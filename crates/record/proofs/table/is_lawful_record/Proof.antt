@@ -8,13 +8,13 @@ use mathlib.Core.List.{List, []}
 use mathlib.Core.Path.{_∙_, _≡_, ap, refl, sym}
 use native.Mathlib.Nat.{le-of-eq}
 use native.Mathlib.Omega.{arith}
-use Rattle.record.proofs.Chain.{goes-on, leaves, skip, stop}
+use Rattle.messages.proofs.Chain.{goes-on, leaves, skip, stop}
 use Rattle.record.proofs.Cut.{all-from, cut-at, length-cut}
 use Rattle.record.specs.Lawful.{lawful}
-use Rattle.record.specs.Layout.{messageWidth}
-use Rattle.record.specs.Parts.{Message}
+use Rattle.messages.specs.Layout.{messageWidth}
+use Rattle.messages.specs.Parts.{Message}
 use Rattle.record.specs.Table.{messageIn, messages, roomOf}
-use Rattle.record.specs.Tests.{all}
+use Rattle.messages.specs.Tests.{all}
 use Rattle.record.proofs.table.is_lawful_record.Statement.{statement}
 use Rattle.record.proofs.table.is_lawful_record.Tie as tie
 

@@ -2,7 +2,7 @@
 use borrow.Author.Needs.{needs}
 use borrow.Author.Tests.{eq-eqb, ne-eqb}
 use mathlib.Core.Path.{refl}
-use Rattle.record.proofs.Chain.{skip, stop}
+use Rattle.messages.proofs.Chain.{skip, stop}
 use Rattle.record.proofs.table.is_whole.Statement.{statement}
 use Rattle.record.proofs.table.is_whole.Tie as tie
 

@@ -3,7 +3,7 @@ use Prim.Native.Nat.{_*_, _-_}
 use borrow.Author.Needs.{needs}
 use native.Mathlib.Omega.{arith}
 use Rattle.record.proofs.Cut.{part}
-use Rattle.record.specs.Layout.{messageWidth}
+use Rattle.messages.specs.Layout.{messageWidth}
 use Rattle.record.proofs.table.message.Statement.{statement}
 use Rattle.record.proofs.table.message.Tie as tie
 

@@ -4,7 +4,7 @@ use borrow.Author.Needs.{needs}
 use lib.ListN.{drop, take}
 use mathlib.Core.List.{_++_}
 use mathlib.Core.Path.{_∙_, ap}
-use Rattle.record.specs.Layout.{messageWidth}
+use Rattle.messages.specs.Layout.{messageWidth}
 use Rattle.record.proofs.table.write.Statement.{statement}
 use Rattle.record.proofs.table.write.Tie as tie
 

@@ -6,8 +6,8 @@ use mathlib.Core.Bool.{Bool}
 use mathlib.Core.List.{List}
 use mathlib.Core.Path.{_∙_, _≡_, ap, refl, sym}
 use native.Mathlib.Omega.{arith}
-use Rattle.record.proofs.Chain.{last, skip, stop}
-use Rattle.record.specs.Parts.{Message}
+use Rattle.messages.proofs.Chain.{last, skip, stop}
+use Rattle.messages.specs.Parts.{Message}
 use Rattle.record.specs.Table.{messages}
 use Rattle.rules.specs.Report.{stands}
 use Rattle.runs.proofs.Standing.{stands-next}

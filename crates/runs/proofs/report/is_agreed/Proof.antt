@@ -4,9 +4,9 @@ use borrow.Author.Tests.{eq-eqb, ne-eqb}
 use mathlib.Core.Bool.{Bool}
 use mathlib.Core.List.{[], _∷_}
 use mathlib.Core.Path.{_∙_}
-use Rattle.record.proofs.Chain.{skip, stop}
+use Rattle.messages.proofs.Chain.{skip, stop}
 use Rattle.record.specs.Table.{messages}
-use Rattle.record.specs.Tests.{every}
+use Rattle.messages.specs.Tests.{every}
 use Rattle.rules.specs.Report.{stands}
 use Rattle.runs.proofs.report.is_agreed.Statement.{statement}
 use Rattle.runs.proofs.report.is_agreed.Tie as tie

@@ -2,7 +2,7 @@
 use borrow.Author.Needs.{needs}
 use borrow.Author.Tests.{eq-eqb, ne-eqb}
 use mathlib.Core.Path.{refl}
-use Rattle.record.proofs.Chain.{skip, stop}
+use Rattle.messages.proofs.Chain.{skip, stop}
 use Rattle.runs.proofs.report.is_house_reply.Statement.{statement}
 use Rattle.runs.proofs.report.is_house_reply.Tie as tie
 

@@ -1,7 +1,7 @@
 -- `runs::report::is_outside` meets its promise.
 use borrow.Author.Tests.{eq-eqb, ne-eqb}
 use mathlib.Core.Path.{refl}
-use Rattle.record.proofs.Chain.{skip, stop}
+use Rattle.messages.proofs.Chain.{skip, stop}
 use Rattle.runs.proofs.report.is_outside.Statement.{statement}
 use Rattle.runs.proofs.report.is_outside.Tie as tie
 

@@ -1,7 +1,7 @@
 -- `runs::report::its_payment` meets its promise.
 use borrow.Author.Needs.{needs}
 use mathlib.Core.Path.{_∙_, ap}
-use Rattle.record.specs.declared.parts.Slip.{Slip}
+use Rattle.messages.specs.declared.parts.Slip.{Slip}
 use Rattle.rules.specs.Honest.{paymentBy}
 use Rattle.runs.proofs.report.its_payment.Statement.{statement}
 use Rattle.runs.proofs.report.its_payment.Tie as tie

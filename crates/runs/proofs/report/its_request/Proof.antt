@@ -1,7 +1,7 @@
 -- `runs::report::its_request` meets its promise.
 use borrow.Author.Needs.{needs}
 use mathlib.Core.Path.{_∙_, ap}
-use Rattle.record.specs.declared.parts.Slip.{Slip}
+use Rattle.messages.specs.declared.parts.Slip.{Slip}
 use Rattle.rules.specs.Honest.{requestBy}
 use Rattle.runs.proofs.report.its_request.Statement.{statement}
 use Rattle.runs.proofs.report.its_request.Tie as tie

@@ -5,15 +5,15 @@ use borrow.Author.Tests.{not-false, not-true}
 use mathlib.Core.Path.{_∙_, _≡_, ap, refl, sym}
 use native.Mathlib.Omega.{arith}
 use Rattle.record.proofs.Cut.{message-at}
-use Rattle.record.specs.Parts.{Message}
+use Rattle.messages.specs.Parts.{Message}
 use Rattle.record.specs.Table.{messageAt, messages, roomOf}
-use Rattle.record.specs.declared.signed.ReplySigned.{ReplySigned}
+use Rattle.messages.specs.declared.signed.ReplySigned.{ReplySigned}
 use Rattle.rules.specs.Items.{replySignedIn}
 use Rattle.rules.specs.Report.{houseReply, replyMark, report, reportOn}
-use Rattle.runs.proofs.Standing.{take-messages}
-use Rattle.step.proofs.Lowest.{above, below, inside}
-use Rattle.step.proofs.Outcomes.{lawful-room}
-use Rattle.step.proofs.Picks.{no, yes}
+use Rattle.record.proofs.Cut.{take-messages}
+use Rattle.messages.proofs.Chain.{above, below, inside}
+use Rattle.record.proofs.Whole.{lawful-room}
+use Rattle.messages.proofs.Picks.{no, yes}
 use Rattle.runs.proofs.report.report.Statement.{statement}
 use Rattle.runs.proofs.report.report.Tie as tie
 

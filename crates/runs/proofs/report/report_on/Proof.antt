@@ -2,7 +2,7 @@
 use borrow.Author.Needs.{needs}
 use mathlib.Core.Path.{_∙_, refl, sym}
 use Rattle.rules.specs.Report.{reportOn}
-use Rattle.step.proofs.Picks.{no, yes}
+use Rattle.messages.proofs.Picks.{no, yes}
 use Rattle.runs.proofs.report.report_on.Statement.{statement}
 use Rattle.runs.proofs.report.report_on.Tie as tie
 

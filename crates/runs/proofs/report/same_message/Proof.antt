@@ -5,8 +5,8 @@ use borrow.Author.Tests.{eq-eqb, ne-eqb}
 use lib.ListN.{drop, length}
 use mathlib.Core.Path.{_∙_, _≡_, refl, sym}
 use native.Mathlib.Omega.{arith}
-use Rattle.record.proofs.Chain.{skip, stop}
-use Rattle.record.specs.Tests.{same}
+use Rattle.messages.proofs.Chain.{skip, stop}
+use Rattle.messages.specs.Tests.{same}
 use Rattle.runs.proofs.Standing.{same-from, same-over, unlike}
 use Rattle.runs.proofs.report.same_message.Statement.{statement}
 use Rattle.runs.proofs.report.same_message.Tie as tie

@@ -6,11 +6,12 @@ use mathlib.Core.Logic.{⊎-elim}
 use mathlib.Core.Path.{_∙_, ap, refl, sym}
 use native.Mathlib.Omega.{arith}
 use Rattle.record.proofs.Cut.{length-cut}
-use Rattle.record.specs.Layout.{AuthRequest, AuthResponse, Initiate, Invoice, Payment, messageWidth}
+use Rattle.messages.specs.Layout.{AuthRequest, AuthResponse, Initiate, Invoice, Payment, messageWidth}
 use Rattle.rules.specs.Codes.{forges}
 use Rattle.rules.specs.Honest.{started}
 use Rattle.rules.specs.Step.{codeOf}
-use Rattle.step.proofs.Deeds.{as-message, for-table, forged-draft, neighbours}
+use Rattle.arguments.proofs.Places.{for-table}
+use Rattle.step.proofs.Deeds.{as-message, forged-draft, neighbours}
 use Rattle.step.proofs.Seven.{at-code}
 use Rattle.step.proofs.drafts.drafted.Statement.{statement}
 use Rattle.step.proofs.drafts.drafted.Tie as tie

@@ -3,7 +3,7 @@ use borrow.Author.Needs.{needs}
 use lib.ListN.{getD}
 use mathlib.Core.Path.{_∙_, refl}
 use native.Mathlib.Omega.{arith}
-use Rattle.record.specs.Parts.{Message}
+use Rattle.messages.specs.Parts.{Message}
 use Rattle.rules.specs.Honest.{invoiceClaims, invoiced}
 use Rattle.step.proofs.Seven.{allows, at-code, forbids, message-there, moved, moved-both, safe-place}
 use Rattle.step.proofs.drafts.invoices.Statement.{statement}

@@ -7,9 +7,10 @@ use native.Mathlib.Omega.{arith}
 use Rattle.record.specs.Table.{roomOf}
 use Rattle.rules.specs.Codes.{known}
 use Rattle.rules.specs.Step.{codeOf}
-use Rattle.step.proofs.Lowest.{above, below, inside}
-use Rattle.step.proofs.Outcomes.{accepts, faulty, full, most, not-allowed, ready, refuses, taken, under-most, unknown}
-use Rattle.step.specs.Ready.{Known}
+use Rattle.messages.proofs.Chain.{above, below, inside}
+use Rattle.record.proofs.Whole.{most, under-most}
+use Rattle.step.proofs.Outcomes.{accepts, faulty, full, not-allowed, ready, refuses, taken, unknown}
+use Rattle.arguments.specs.Ready.{Known}
 use Rattle.step.proofs.judge.judge_step.Statement.{statement}
 use Rattle.step.proofs.judge.judge_step.Tie as tie
 

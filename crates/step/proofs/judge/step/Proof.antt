@@ -3,7 +3,8 @@ use borrow.Author.Needs.{needs}
 use borrow.Author.Tests.{not-false, not-true}
 use mathlib.Core.Path.{_∙_, subst, sym}
 use Rattle.rules.specs.Step.{Outcome}
-use Rattle.step.proofs.Outcomes.{lawful-judged, lawful-room, lawful-whole, refuses, unlawful}
+use Rattle.record.proofs.Whole.{lawful-room, lawful-whole}
+use Rattle.step.proofs.Outcomes.{lawful-judged, refuses, unlawful}
 use Rattle.step.specs.Answer.{Answered}
 use Rattle.step.proofs.judge.step.Statement.{statement}
 use Rattle.step.proofs.judge.step.Tie as tie

@@ -1,0 +1,154 @@
+-- The refusals of arguments: a letter tells its argument, the fault of one argument by its sort, and the step's as the lowest of the six.
+use mathlib.Core.Bool.{Bool, true, false, _&&_, _||_, cond}
+use mathlib.Core.List.{List, [], _∷_}
+use mathlib.Core.Path.{_≡_, _∙_, refl, sym, ap, ap₂, subst}
+use Prim.Native.Nat.{ℕ, suc, _+_, _≤_, _<_, min, zero-le}
+use native.Mathlib.Nat.{le-of-eq}
+use native.Mathlib.Numerals.{add-one}
+use native.Mathlib.Omega.{arith}
+use borrow.Author.Tests.{le-leb, ne-eqb}
+use lib.Dec.{eqb, leb}
+use lib.ListN.{drop, drop-of-length-le, getD, length}
+use lib.Seq.{drop-cons}
+use Rattle.messages.specs.Layout.{AuthRequest, AuthResponse, Initiate, Invoice, Payment}
+use Rattle.record.specs.Table.{Record, messageAt}
+use Rattle.rules.specs.Codes.{Argument, Item, letter, rowOf}
+use Rattle.rules.specs.Gates.{_unless_, through}
+use Rattle.rules.specs.Items.{eachArgument, holding, inRange, placed, readable}
+use Rattle.rules.specs.Step.{argumentsOf, codeOf}
+use Rattle.arguments.specs.Faults.{faultOf, faults, fine, itself, placeFault}
+use Rattle.arguments.specs.Letters.{argumentLettered}
+use Rattle.arguments.specs.Ready.{Known}
+use Rattle.arguments.proofs.Takes.{argument-at, six, six-arguments}
+
+lettered : (k : Argument) → argumentLettered (letter k) ≡ k
+lettered Argument.unused = refl
+lettered Argument.B = refl
+lettered Argument.S = refl
+lettered Argument.c = refl
+lettered Argument.a = refl
+lettered (Argument.the Initiate) = refl
+lettered (Argument.the Invoice) = refl
+lettered (Argument.the Payment) = refl
+lettered (Argument.the AuthRequest) = refl
+lettered (Argument.the AuthResponse) = refl
+lettered (Argument.at Item.h) = refl
+lettered (Argument.at Item.m) = refl
+lettered (Argument.at Item.e) = refl
+lettered (Argument.at Item.r) = refl
+lettered (Argument.at Item.v) = refl
+lettered (Argument.at Item.q) = refl
+lettered (Argument.at Item.p) = refl
+lettered (Argument.at Item.g) = refl
+
+pub tells : (k : Argument) (x : ℕ) → letter k ≡ x → argumentLettered x ≡ k
+tells k x e = ap argumentLettered (sym e) ∙ lettered k
+
+-- an argument that is a place
+pub places : (n : ℕ) (R : Record) (k : Argument) (x : ℕ) → (letter k ≡ 45 → ⊥) → (letter k ≡ 66 → ⊥) → (letter k ≡ 83 → ⊥)
+    → (letter k ≡ 99 → ⊥) → (letter k ≡ 97 → ⊥) → placeFault n R k x ≡ faultOf n R k x
+places n R Argument.unused x u b s c a = absurd (u refl)
+places n R Argument.B x u b s c a = absurd (b refl)
+places n R Argument.S x u b s c a = absurd (s refl)
+places n R Argument.c x u b s c a = absurd (c refl)
+places n R Argument.a x u b s c a = absurd (a refl)
+places n R (Argument.the k) x u b s c a = refl
+places n R (Argument.at i) x u b s c a = refl
+
+-- his own account, or a place
+pub own : (n : ℕ) (R : Record) (x : ℕ) → x ≡ 0 → fine ≡ faultOf n R Argument.a x
+own n R x e =
+    subst (λ (y : ℕ). fine ≡ faultOf n R Argument.a y) (sym e) (sym (ap (λ (b : Bool). cond b fine 4) (le-leb 0 n zero-le)))
+
+pub borrowed : (n : ℕ) (R : Record) (x : ℕ) → (x ≡ 0 → ⊥) → placeFault n R Argument.a x ≡ faultOf n R Argument.a x
+borrowed n R x h =
+    ap₂ (λ (b d : Bool). cond (b && leb x n) (cond (d || readable (messageAt R (record { 0 = x }))) fine 5) 4) (le-leb 1 x (omega arith))
+    (sym (ne-eqb x 0 h))
+
+-- gates that two arguments pass or not: the lower number wins
+unfoldable pub three : Bool → Bool → Bool → ℕ
+three a b c = cond a (cond b (cond c 9 5) 4) 3
+
+lower : (a b c a′ b′ c′ : Bool) → three (a && a′) (b && b′) (c && c′) ≡ min (three a b c) (three a′ b′ c′)
+unfolding three
+lower false b c false b′ c′ = refl
+lower false b c true false c′ = refl
+lower false b c true true false = refl
+lower false b c true true true = refl
+lower true false c false b′ c′ = refl
+lower true false c true false c′ = refl
+lower true false c true true false = refl
+lower true false c true true true = refl
+lower true true false false b′ c′ = refl
+lower true true true false b′ c′ = refl
+lower true true false true false c′ = refl
+lower true true true true false c′ = refl
+lower true true false true true false = refl
+lower true true false true true true = refl
+lower true true true true true false = refl
+lower true true true true true true = refl
+
+most-nine : (a b c : Bool) → three a b c ≤ 9
+unfolding three
+most-nine false b c = omega arith
+most-nine true false c = omega arith
+most-nine true true false = omega arith
+most-nine true true true = omega arith
+
+-- the step's number from argument i on
+pub at-most : (n : ℕ) (R : Record) (ks : List Argument) (xs : List ℕ) → faults n R ks xs ≤ 9
+unfolding three
+at-most n R ks xs = most-nine (eachArgument inRange ks xs) (eachArgument (placed n) ks xs) (eachArgument (holding R) ks xs)
+
+pub faults-from : (n : ℕ) (R : Record) (ks : List Argument) (xs : List ℕ) (i : ℕ) → i < length ks → i < length xs
+    → faults n R (drop i ks) (drop i xs)
+    ≡ min (faultOf n R (getD ks i Argument.unused) (getD xs i 0)) (faults n R (drop (i + 1) ks) (drop (i + 1) xs))
+unfolding three
+faults-from n R ks xs i l w =
+    let k = getD ks i Argument.unused in
+    let x = getD xs i 0 in
+    let ks′ = drop (suc i) ks in
+    let xs′ = drop (suc i) xs in
+    ap₂ (faults n R) (drop-cons ks i Argument.unused l) (drop-cons xs i 0 w)
+    ∙ lower (inRange k x) (placed n k x) (holding R k x) (eachArgument inRange ks′ xs′) (eachArgument (placed n) ks′ xs′)
+    (eachArgument (holding R) ks′ xs′)
+    ∙ ap (λ (j : ℕ). min (faultOf n R k x) (faults n R (drop j ks) (drop j xs))) (sym (add-one i))
+
+-- what is so of the argument that a letter tells
+pub by-letter : {r : ℕ} (n : ℕ) (R : Record) (k : Argument) (x y : ℕ) → letter k ≡ y → r ≡ faultOf n R (argumentLettered y) x → r ≡ faultOf n R k x
+by-letter {r} n R k x y e p = subst (λ (j : Argument). r ≡ faultOf n R j x) (tells k y e) p
+
+pub by-place : {r : ℕ} (n : ℕ) (R : Record) (k : Argument) (x y : ℕ) → letter k ≡ y → r ≡ placeFault n R (argumentLettered y) x → r ≡ placeFault n R k x
+by-place {r} n R k x y e p = subst (λ (j : Argument). r ≡ placeFault n R j x) (tells k y e) p
+
+-- one argument of a step further: f is its fault, next the lower of that and the lowest so far
+pub turn : (n : ℕ) (R : Record) {s : List ℕ} (known : Known s) (i f first next : ℕ) → i < 6
+    → f ≡ faultOf n R (getD (rowOf (codeOf s) .takes) i Argument.unused) (getD s (i + 1) 0)
+    → min first (faults n R (drop i (rowOf (codeOf s) .takes)) (drop i (argumentsOf s))) ≡ faults n R (rowOf (codeOf s) .takes) (argumentsOf s)
+    → next ≡ min first f
+    → min next (faults n R (drop (i + 1) (rowOf (codeOf s) .takes)) (drop (i + 1) (argumentsOf s))) ≡ faults n R (rowOf (codeOf s) .takes) (argumentsOf s)
+turn n R {s} known i f first next l e inv p =
+    let ks = rowOf (codeOf s) .takes in
+    let xs = argumentsOf s in
+    let from : faults n R (drop i ks) (drop i xs) ≡ min f (faults n R (drop (i + 1) ks) (drop (i + 1) xs)) =
+    faults-from n R ks xs i (subst (λ (z : ℕ). i < z) (sym (six (codeOf s) (known .low) (known .high))) l)
+    (subst (λ (z : ℕ). i < z) (sym (six-arguments known)) l)
+    ∙ ap (λ (z : ℕ). min z (faults n R (drop (i + 1) ks) (drop (i + 1) xs)))
+    (ap (faultOf n R (getD ks i Argument.unused)) (argument-at s i) ∙ sym e) in
+    lowest first f next (faults n R (drop i ks) (drop i xs)) (faults n R (drop (i + 1) ks) (drop (i + 1) xs)) (faults n R ks xs) from inv p
+  where
+    lowest : (x y z v w u : ℕ) → v ≡ min y w → min x v ≡ u → z ≡ min x y → min z w ≡ u
+    lowest x y z v w u a b c = omega arith
+
+-- past the last argument
+pub none-left : (n : ℕ) (R : Record) {s : List ℕ} (known : Known s) (i first : ℕ) → i ≡ 6 → first ≤ 9
+    → min first (faults n R (drop i (rowOf (codeOf s) .takes)) (drop i (argumentsOf s))) ≡ faults n R (rowOf (codeOf s) .takes) (argumentsOf s)
+    → first ≡ faults n R (rowOf (codeOf s) .takes) (argumentsOf s)
+none-left n R {s} known i first e l inv =
+    let z : faults n R (drop i (rowOf (codeOf s) .takes)) (drop i (argumentsOf s)) ≡ 9 =
+    ap (λ (ks : List Argument). faults n R ks (drop i (argumentsOf s)))
+    (drop-of-length-le (rowOf (codeOf s) .takes) {i = i} (le-of-eq (six (codeOf s) (known .low) (known .high) ∙ sym e))) in
+    sym (low first _ z l) ∙ inv
+  where
+    low : (x y : ℕ) → y ≡ 9 → x ≤ 9 → min x y ≡ x
+    low x y p q = omega arith

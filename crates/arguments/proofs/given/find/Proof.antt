@@ -1,0 +1,68 @@
+-- `arguments::given::find` meets its promise.
+use Prim.Native.Nat.{_-_, _≤_}
+use borrow.Author.Needs.{needs}
+use borrow.Author.Tests.{eq-eqb, ne-eqb}
+use lib.ListN.{drop}
+use mathlib.Core.Path.{_∙_, _≡_, refl, sym}
+use native.Mathlib.Omega.{arith}
+use Rattle.rules.specs.Codes.{Argument, letter, rowOf}
+use Rattle.rules.specs.Step.{argumentsOf, codeOf}
+use Rattle.messages.proofs.Picks.{no, yes}
+use Rattle.arguments.proofs.Takes.{find-from, find-over}
+use Rattle.arguments.specs.Given.{foundIn}
+use Rattle.arguments.proofs.given.find.Statement.{statement}
+use Rattle.arguments.proofs.given.find.Tie as tie
+
+abbrev Inv-loop : tie.InvT-loop
+Inv-loop name s code i₀ i =
+    (i ≤ 6)
+    × ((k : Argument) → letter k ≡ name
+    → foundIn k (drop i (rowOf (codeOf s) .takes)) (drop i (argumentsOf s)) ≡ foundIn k (rowOf (codeOf s) .takes) (argumentsOf s))
+
+abbrev μ-loop : tie.MeasureT-loop
+μ-loop name s code i₀ i = 6 - i
+
+cast-code : tie.Need-cast-code Inv-loop μ-loop
+cast-code c = omega (arith, c .shared-slice-known2 .given 0)
+
+loop-holds : tie.Need-loop-holds Inv-loop μ-loop
+loop-holds c = (search needs, λ k e. refl)
+
+returns : tie.Need-returns Inv-loop μ-loop
+returns c =
+    let the-letter-at = c .before .before .letter-at in
+    let the-loop-test = c .before .before .before .loop-test in
+    let the-loop = c .before .before .before .before .loop in
+    let the-pre = c .before .before .before .before .before .before .before .pre in
+    λ k e. (yes _ (eq-eqb _ _ (c .before .if1 .taken ∙ sym e)) refl) ∙ sym (find-from (the-pre) k (the-loop .i) _ (the-loop-test .taken) (the-letter-at .ensures)) ∙ the-loop .inv .1 k e
+
+loop-again : tie.Need-loop-again Inv-loop μ-loop
+loop-again c =
+    let the-loop-test = c .before .before .loop-test in
+    let the-loop = c .before .before .before .loop in
+    let the-pre = c .before .before .before .before .before .before .pre in
+    (omega arith, λ k e. no _ (ne-eqb _ _ (λ z. c .if1 .left (z ∙ e))) refl ∙ sym (find-from (the-pre) k (the-loop .i) _ (the-loop-test .taken) (c .before .letter-at .ensures)) ∙ the-loop .inv .1 k e)
+
+returns-2 : tie.Need-returns-2 Inv-loop μ-loop
+returns-2 c =
+    let the-pre = c .before .before .before .before .pre in
+    λ k e. sym (find-over (the-pre) k (c .before .loop .i) (omega arith)) ∙ c .before .loop .inv .1 k e
+
+pub find-spec : {M : Type 1} → statement M
+find-spec =
+    tie.close
+    (tie.spec
+    Inv-loop
+    μ-loop
+    (λ c. omega arith)
+    cast-code
+    loop-holds
+    (λ c κs. omega arith)
+    (λ c. omega arith)
+    (λ c. omega arith)
+    (λ c. omega arith)
+    returns
+    (λ c. omega arith)
+    (λ c. omega arith)
+    loop-again
+    returns-2)

@@ -1,0 +1,22 @@
+-- `arguments::items::is_readable` meets its promise.
+use borrow.Author.Needs.{needs}
+use borrow.Author.Tests.{eq-eqb, ne-eqb, not-false, not-true}
+use lib.Dec.{eqb}
+use mathlib.Core.Path.{_∙_, _≡_, ap, refl, sym}
+use Rattle.messages.proofs.Chain.{last, skip, stop}
+use Rattle.messages.specs.declared.parts.Slip.{Slip}
+use Rattle.messages.proofs.Picks.{no, one, other, yes}
+use Rattle.arguments.proofs.items.is_readable.Statement.{statement}
+use Rattle.arguments.proofs.items.is_readable.Tie as tie
+
+returns : tie.Need-returns
+returns c = stop _ (sym (c .before .has-slip .ensures) ∙ not-true _ (c .if1 .taken))
+
+returns-2 : tie.Need-returns-2
+returns-2 c =
+    let the-if1 = c .before .before .if1 in
+    let the-has-slip = c .before .before .before .has-slip in
+    skip (sym (the-has-slip .ensures) ∙ not-false _ (the-if1 .left)) (ap (λ (x : Slip). eqb (x .key .0) 0) (c .before .slip-in .ensures))
+
+pub is-readable-spec : {M : Type 1} → statement M
+is-readable-spec = tie.close (tie.spec (λ c κs. search needs) returns (λ c κs. search needs) returns-2)

@@ -1,0 +1,4 @@
+pub mod Faults
+pub mod Given
+pub mod Letters
+pub mod Ready

@@ -1,0 +1,22 @@
+-- What is known of a step once its code, and then its places, have been looked at: what the functions behind those tests rely on.
+use mathlib.Core.Bool.{true}
+use mathlib.Core.List.{List}
+use mathlib.Core.Path.{_≡_}
+use Prim.Native.Nat.{ℕ, _≤_, _*_}
+use lib.ListN.{length}
+use Rattle.messages.specs.Layout.{messageWidth}
+use Rattle.rules.specs.Codes.{rowOf}
+use Rattle.rules.specs.Items.{eachArgument, placed}
+use Rattle.rules.specs.Step.{argumentsOf, codeOf}
+
+-- seven numbers, the first a code
+pub record Known (s : List ℕ) : Type 0 where
+  pub seven : length s ≡ 7
+  pub low : 1 ≤ codeOf s
+  pub high : codeOf s ≤ 37
+
+-- and every place that it names in 1..n, in a table with room for n messages
+pub record Ready (n : ℕ) (t s : List ℕ) : Type 0 where
+  pub known : Known s
+  pub room : n * messageWidth ≤ length t
+  pub places : eachArgument (placed n) (rowOf (codeOf s) .takes) (argumentsOf s) ≡ true

@@ -1,0 +1,61 @@
+// Which arguments each code takes.
+ghost use mathlib.Core.Path.{_≡_};
+ghost use Prim.Native.Nat.{_<_, _≤_};
+ghost use lib.ListN.{getD};
+ghost use Rattle.rules.specs.Codes.{letter, rowOf, unused};
+
+// Codes are 1 to 37, and a step has six arguments after its code.
+pub const MOST_CODE: u16 = 37;
+
+pub const MOST_ARGUMENTS: usize = 6;
+
+// What each of the six arguments of a step is, a row for each code from 1: B a buyer, S a seller, c a response code; the place of
+// I an Initiate, V an Invoice, P a Payment, Q an Auth-Request; the place of a message that yields h a hashed account, m a mark,
+// e a slip, a an account, r drawer and draw, v an invoice signature, q a request signature, p a buyer's signature, g a gateway's; an
+// argument with - is unused.
+const ARGUMENTS: [u8; 222] = *b"\
+BS----\
+SI----\
+BIV---\
+SVP---\
+Q-----\
+BSh---\
+Sar---\
+SBmv--\
+SBhv--\
+Sarv--\
+SBm---\
+SBh---\
+Sar---\
+BSep--\
+Sarmp-\
+Sarp--\
+BSem--\
+BSeh--\
+Sear--\
+Sarm--\
+Sar---\
+Smeqp-\
+SBheqp\
+Sarqp-\
+Smep--\
+SBhep-\
+Sarp--\
+Smeq--\
+SBheq-\
+Sarq--\
+Sme---\
+SBhe--\
+Sar---\
+Scg---\
+Scm---\
+SBch--\
+Scar--";
+
+// What argument i of a code is, i from 0.
+pub fn letter_at(code: usize, i: usize) -> u8
+    requires { ⌜ (1 ≤ code) × (code ≤ 37) × (i < 6) ⌝ }
+    ensures { λ r. ⌜ r ≡ letter (getD (rowOf code .takes) i unused) ⌝ }
+{
+    ARGUMENTS[(code - 1) * MOST_ARGUMENTS + i]
+}

@@ -1,0 +1,144 @@
+-- What the search of a step's row found: the item is given, its place is in 1..n, and the value copied from there is the one that the
+-- definitions name; or it is not given, and what was built stands.
+use mathlib.Core.Bool.{Bool, true, false, _&&_, _||_, cond, true≢false}
+use mathlib.Core.List.{List, [], _∷_}
+use mathlib.Core.Path.{_≡_, _∙_, refl, sym, ap, subst}
+use Prim.Native.Nat.{ℕ, suc, _*_, _≤_}
+use native.Mathlib.Nat.{mul-le-mul-right, le-trans}
+use native.Mathlib.Omega.{arith}
+use borrow.Author.Tests.{eq-eqb, eqb-true, leb-true, ne-eqb}
+use lib.Dec.{eqb, leb}
+use lib.ListN.{length}
+use Rattle.messages.proofs.Chain.{left-of, right-of}
+use Rattle.record.proofs.Cut.{message-at}
+use Rattle.messages.specs.Layout.{messageWidth}
+use Rattle.messages.specs.Parts.{Message}
+use Rattle.record.specs.Table.{Record, messageAt, messageIn, messages}
+use Rattle.messages.specs.declared.parts.Account.{Account}
+use Rattle.rules.specs.Codes.{Argument, Item, letter}
+use Rattle.rules.specs.Forged.{given, gives}
+use Rattle.rules.specs.Items.{eachArgument, placed, slipIn}
+use Rattle.rules.specs.Step.{argumentsOf, codeOf}
+use Rattle.arguments.proofs.Lowest.{tells}
+use Rattle.arguments.proofs.Places.{in-table}
+use Rattle.messages.proofs.Picks.{no, yes}
+use Rattle.arguments.proofs.Takes.{six, six-arguments}
+use Rattle.arguments.specs.Given.{foundIn}
+use Rattle.arguments.specs.Letters.{argumentLettered}
+use Rattle.forged.specs.Outside.{accountIn, itemIn, numberIn, takenBy}
+use Rattle.arguments.specs.Ready.{Known, Ready}
+use Rattle.arguments.specs.declared.given.Given.{Given}
+use Rattle.arguments.specs.declared.given.Given.the-variants.{At, Nothing}
+
+is-at : Given → Bool
+is-at (At x) = true
+is-at Nothing = false
+
+number-at : Given → ℕ
+number-at (At x) = x
+number-at Nothing = 0
+
+by-test : (b : Bool) (x : ℕ) → is-at (cond b (At x) Nothing) ≡ b
+unfolding is-at
+by-test true x = refl
+by-test false x = refl
+
+pub found : (k : Argument) (ks : List Argument) (xs : List ℕ) (p : ℕ) → At p ≡ foundIn k ks xs → gives k ks ≡ true
+unfolding is-at
+found k ks xs p e = sym (ap is-at e ∙ by-test (gives k ks) (given k ks xs))
+
+pub found-number : (k : Argument) (ks : List Argument) (xs : List ℕ) (p : ℕ) → At p ≡ foundIn k ks xs → p ≡ given k ks xs
+unfolding number-at
+found-number k ks xs p e = ap number-at (e ∙ sym (yes Nothing (found k ks xs p e) refl))
+
+pub lost : (k : Argument) (ks : List Argument) (xs : List ℕ) → Nothing ≡ foundIn k ks xs → gives k ks ≡ false
+unfolding is-at
+lost k ks xs e = sym (ap is-at e ∙ by-test (gives k ks) (given k ks xs))
+
+-- what is not given has the number 0
+pub no-number : (k : Argument) (ks : List Argument) (xs : List ℕ) → gives k ks ≡ false → 0 ≡ given k ks xs
+no-number k [] xs e = refl
+no-number k (j ∷ js) [] e = refl
+no-number k (j ∷ js) (x ∷ xs) e = by (eqb (letter j) (letter k)) e (no-number k js xs)
+  where
+    by : (b : Bool) → (b || gives k js) ≡ false → (gives k js ≡ false → 0 ≡ given k js xs) → 0 ≡ cond b x (given k js xs)
+    by true f rec = absurd (true≢false f)
+    by false f rec = rec f
+
+-- a test that all arguments pass is passed by one that is given
+same-letter : (j k : Argument) → eqb (letter j) (letter k) ≡ true → j ≡ k
+same-letter j k e = sym (tells j (letter k) (eqb-true _ _ e)) ∙ tells k (letter k) refl
+
+pub passed : (f : Argument → ℕ → Bool) (k : Argument) (ks : List Argument) (xs : List ℕ) → length ks ≡ length xs
+    → eachArgument f ks xs ≡ true → gives k ks ≡ true → f k (given k ks xs) ≡ true
+passed f k [] xs l h e = absurd (true≢false (sym e))
+passed f k (j ∷ js) [] l h e = absurd (omega arith)
+passed f k (j ∷ js) (x ∷ xs) l h e =
+    by (eqb (letter j) (letter k)) refl e (λ (w : gives k js ≡ true). passed f k js xs (omega arith) (right-of (f j x) _ h) w)
+  where
+    by : (b : Bool) → eqb (letter j) (letter k) ≡ b → (b || gives k js) ≡ true → (gives k js ≡ true → f k (given k js xs) ≡ true)
+        → f k (cond b x (given k js xs)) ≡ true
+    by true q w rec = subst (λ (i : Argument). f i x ≡ true) (same-letter j k q) (left-of (f j x) _ h)
+    by false q w rec = rec w
+
+module _ {n : ℕ} {t s : List ℕ} (ready : Ready n t s) where
+  pub place-passed : (k : Argument) → gives k (takenBy s) ≡ true → placed n k (given k (takenBy s) (argumentsOf s)) ≡ true
+  place-passed k e =
+      passed (placed n) k (takenBy s) (argumentsOf s)
+      (six (codeOf s) (ready .known .low) (ready .known .high) ∙ sym (six-arguments (ready .known))) (ready .places) e
+
+  module _ (i : Item) (p : ℕ) (e : At p ≡ foundIn (Argument.at i) (takenBy s) (argumentsOf s)) where
+    given-place : placed n (Argument.at i) p ≡ true
+    given-place =
+        subst (λ (x : ℕ). placed n (Argument.at i) x ≡ true) (sym (found-number (Argument.at i) (takenBy s) (argumentsOf s) p e))
+        (place-passed (Argument.at i) (found (Argument.at i) (takenBy s) (argumentsOf s) p e))
+
+    first-place : 1 ≤ p
+    first-place = leb-true _ _ (left-of (leb 1 p) (leb p n) given-place)
+
+    last-place : p ≤ n
+    last-place = leb-true _ _ (right-of (leb 1 p) (leb p n) given-place)
+
+    pub safe : (1 ≤ p) × (p * messageWidth ≤ length t)
+    safe = (first-place, in-table ready last-place)
+
+    pub copied : {A : Type 0} (read : Message → A) (built : A) → read (messageIn t (record { 0 = p })) ≡ itemIn i read built (messages n t) s
+    unfolding itemIn
+    copied read built =
+        yes built (found (Argument.at i) (takenBy s) (argumentsOf s) p e)
+        (ap read
+        (sym (message-at n t (record { 0 = p }) first-place last-place)
+        ∙ ap (λ (x : ℕ). messageAt (messages n t) (record { 0 = x })) (found-number (Argument.at i) (takenBy s) (argumentsOf s) p e)))
+
+  pub stands : {A : Type 0} (i : Item) (read : Message → A) (built : A) → Nothing ≡ foundIn (Argument.at i) (takenBy s) (argumentsOf s)
+      → built ≡ itemIn i read built (messages n t) s
+  unfolding itemIn
+  stands i read built e = no _ (lost (Argument.at i) (takenBy s) (argumentsOf s) e) refl
+
+  -- a, where it is not his own
+  module _ (p : ℕ) (e : p ≡ numberIn Argument.a s) (h : p ≡ 0 → ⊥) where
+    given-account : p ≤ n
+    unfolding numberIn
+    given-account = by (gives Argument.a (takenBy s)) refl
+      where
+        by : (b : Bool) → gives Argument.a (takenBy s) ≡ b → p ≤ n
+        by true w = leb-true _ _ (subst (λ (x : ℕ). leb x n ≡ true) (sym e) (place-passed Argument.a w))
+        by false w = absurd (h (e ∙ sym (no-number Argument.a (takenBy s) (argumentsOf s) w)))
+
+    pub account-safe : (1 ≤ p) × (p * messageWidth ≤ length t)
+    account-safe = (positive p h, in-table ready given-account)
+      where
+        positive : (x : ℕ) → (x ≡ 0 → ⊥) → 1 ≤ x
+        positive x f = omega arith
+
+    pub account-copied : slipIn (messageIn t (record { 0 = p })) .account ≡ accountIn (messages n t) s
+    unfolding accountIn numberIn
+    account-copied =
+        no _ (ne-eqb _ 0 (λ (z : given Argument.a (takenBy s) (argumentsOf s) ≡ 0). h (e ∙ z)))
+        (ap (λ (x : Message). slipIn x .account)
+        (sym (message-at n t (record { 0 = p }) (account-safe .0) given-account)
+        ∙ ap (λ (x : ℕ). messageAt (messages n t) (record { 0 = x })) e))
+
+pub account-own : (R : Record) (s : List ℕ) (p : ℕ) → p ≡ numberIn Argument.a s → p ≡ 0 → _≡_ {A = Account} (record { 0 = 0 }) (accountIn R s)
+unfolding accountIn numberIn
+account-own R s p e z = yes _ (eq-eqb _ 0 (sym e ∙ z)) refl

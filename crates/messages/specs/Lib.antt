@@ -1,0 +1,5 @@
+pub mod Layout
+pub mod Parts
+pub mod Put
+pub mod Signed
+pub mod Tests
