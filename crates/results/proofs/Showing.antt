@@ -9,10 +9,10 @@ use native.Mathlib.Omega.{arith}
 use lib.Dec.{ltb}
 use lib.ListN.{drop, length, take}
 use lib.Seq.{take-at}
-use Rattle.record.specs.Table.{cut, mostRoom, roomOf}
-use Rattle.rules.proofs.Flat.{AllLong, cut-flat, flat-length}
+use Rattle.record.specs.Table.{cut, flat, mostRoom}
+use Rattle.record.proofs.Flat.{AllLong, cut-flat, flat-length}
 use Rattle.rules.specs.Agreed.{_∈_}
-use Rattle.rules.specs.Run.{flat, mostSteps, over, played, stepCount, stepWidth, stepsOf}
+use Rattle.rules.specs.Run.{mostSteps, over, played, stepCount, stepWidth, stepsOf}
 use Rattle.rules.specs.Step.{Step}
 use Rattle.steptext.proofs.Gathered.{seven}
 use Rattle.steptext.specs.Read.{Reading, answersOf, readLines, readSteps, readText, says, stepsIn, tooLong, unreadable}

@@ -3,8 +3,8 @@ use Prim.Native.Nat.{ℕ, _≤_}
 use mathlib.Core.List.{List, []}
 use mathlib.Core.Path.{_≡_}
 use lib.ListN.{length}
-use Rattle.record.specs.Table.{mostRoom}
-use Rattle.rules.specs.Run.{flat, over, played}
+use Rattle.record.specs.Table.{flat, mostRoom}
+use Rattle.rules.specs.Run.{over, played}
 use Rattle.steptext.specs.Read.{Reading, says, tooLong, unreadable}
 use Rattle.results.specs.Printed.{output, reading}
 use Rattle.results.specs.Rows.{mostPrinted}

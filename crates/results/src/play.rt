@@ -13,12 +13,12 @@ ghost use mathlib.Core.List.{[]};
 ghost use mathlib.Core.Path.{_≡_};
 ghost use Prim.Native.Nat.{_≤_};
 ghost use lib.ListN.{length};
-ghost use Rattle.record.specs.Table.{roomOf, whole};
+ghost use Rattle.record.specs.Table.{flat, roomOf, whole};
 ghost use Rattle.results.specs.Printed.{results};
 ghost use Rattle.results.specs.Put.{Put};
 ghost use Rattle.results.specs.Rows.{mostPrinted};
 ghost use Rattle.results.specs.Shown.{Shows};
-ghost use Rattle.rules.specs.Run.{flat, mostSteps, over, played, stepCount, stepsOf};
+ghost use Rattle.rules.specs.Run.{mostSteps, over, played, stepCount, stepsOf};
 
 // The numbers of a record with the most room, and the most bytes that its results take.
 pub const MOST_NUMBERS: usize = MOST_ROOM * MESSAGE_WIDTH;

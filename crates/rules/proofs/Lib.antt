@@ -3,7 +3,6 @@ pub mod Agreement
 pub mod Arguments
 pub mod Claims
 pub mod Deeds
-pub mod Flat
 pub mod Gates
 pub mod Laid
 pub mod LawfulReached

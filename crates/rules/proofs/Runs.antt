@@ -2,27 +2,17 @@
 use mathlib.Core.Bool.{true, _&&_}
 use mathlib.Core.List.{List, [], _∷_, _++_}
 use mathlib.Core.Path.{_≡_, _∙_, refl, sym, ap, ap₂, subst, subst₂}
-use Prim.Native.Nat.{ℕ, zero, suc, _+_, _*_, _/_, _%_, _≤_}
+use Prim.Native.Nat.{ℕ, suc, _+_, _*_, _/_, _%_, _≤_}
 use borrow.Author.Tests.{eqb-true}
 use lib.Dec.{eqb, leb}
 use lib.ListN.{List·getD-append, drop, getD, length, length-append, length-drop, take}
-use lib.Seq.{drop-append-le, take-append-le}
-use native.Mathlib.Nat.{suc-add, suc-mul, zero-add, zero-mul}
 use native.Mathlib.Omega.{arith}
-<<<<<<< HEAD
-use Rattle.record.proofs.Chain.{left-of}
-use Rattle.record.proofs.Cut.{length-cut}
-use Rattle.record.specs.Layout.{messageWidth}
-use Rattle.record.specs.Parts.{Message}
-use Rattle.record.specs.Table.{Record, cut, messages, mostRoom, roomOf, whole}
-use Rattle.rules.proofs.Flat.{AllLong, cut-flat, flat-length}
-=======
 use Rattle.messages.proofs.Chain.{left-of}
 use Rattle.record.proofs.Cut.{cut-append, length-cut}
+use Rattle.record.proofs.Flat.{AllLong, cut-flat, flat-length}
 use Rattle.messages.specs.Layout.{messageWidth}
 use Rattle.messages.specs.Parts.{Message}
 use Rattle.record.specs.Table.{Record, cut, flat, messages, mostRoom, roomOf, whole}
->>>>>>> main
 use Rattle.rules.proofs.Gates.{Open, all-open, passes}
 use Rattle.rules.proofs.Laid.{full-length}
 use Rattle.rules.proofs.LawfulReached.{reached-room, step-as-run, table-lawful}
@@ -39,40 +29,6 @@ use Rattle.rules.specs.Run.{Ran, over, played, run, runGates, runPlayed,
 use Rattle.rules.specs.Session.{R2, R3, R4, R5, R6, Setting, place5, sessionReply, sessionSteps, step1, step2, step3, step4, step5}
 use Rattle.rules.specs.Step.{Step, judge, numberOf, recordAfter}
 use Rattle.rules.specs.Theorems.{RunKeeps, RunPrefixes}
-
-<<<<<<< HEAD
--- a list that is continued has the same first pieces
-cut-append : (w n m : ℕ) (xs ys : List ℕ) → length xs ≡ n * w → cut w (n + m) (xs ++ ys) ≡ cut w n xs ++ cut w m ys
-cut-append w zero m [] ys e = ap (λ (k : ℕ). cut w k ys) (zero-add m)
-cut-append w zero m (x ∷ xs) ys e = absurd (omega (arith, zero-mul w))
-cut-append w (suc n) m xs ys e =
-    let most : w ≤ length xs = omega (arith, suc-mul n w) in
-    ap (λ (k : ℕ). cut w k (xs ++ ys)) (suc-add n m)
-    ∙ ap₂ _∷_ (take-append-le w xs ys most)
-    (ap (cut w (n + m)) (drop-append-le w xs ys most) ∙ cut-append w n m (drop w xs) ys (length-drop w xs ∙ omega (arith, suc-mul n w)))
-=======
--- messages written one after the other and cut again
-abbrev FullLength : Record → Type 0
-FullLength R = (w : Message) → w ∈ R → length w ≡ messageWidth
-
-flat-length : (R : Record) → FullLength R → length (flat R) ≡ length R * messageWidth
-flat-length [] h = refl
-flat-length (x ∷ R) h =
-    length-append x (flat R)
-    ∙ ap₂ _+_ (h x (List·Memᴰ·head refl)) (flat-length R (λ w m. h w (List·Memᴰ·tail m)))
-    ∙ omega (arith, suc-mul (length R) messageWidth)
-
-cut-flat : (R : Record) (rest : List ℕ) → FullLength R → cut messageWidth (length R) (flat R ++ rest) ≡ R
-cut-flat [] rest h = refl
-cut-flat (x ∷ R) rest h =
-    ap₂ _∷_ (ap (take messageWidth) (append-assoc x (flat R) rest) ∙ take-at x (flat R ++ rest) messageWidth l)
-    (ap (λ (t : List ℕ). cut messageWidth (length R) t)
-    (ap (drop messageWidth) (append-assoc x (flat R) rest) ∙ drop-at x (flat R ++ rest) messageWidth l)
-    ∙ cut-flat R rest (λ w m. h w (List·Memᴰ·tail m)))
-  where
-    l : length x ≡ messageWidth
-    l = h x (List·Memᴰ·head refl)
->>>>>>> main
 
 steps-append : (xs ys : List ℕ) → wholeSteps xs ≡ true → stepsOf (xs ++ ys) ≡ stepsOf xs ++ stepsOf ys
 steps-append xs ys e =

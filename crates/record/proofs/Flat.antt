@@ -1,17 +1,15 @@
 -- Pieces of one width laid one after the other, and cut again: the messages of a record, the steps of a list.
-use mathlib.Core.List.{List, [], _∷_, _++_, append-assoc, List·Memᴰ·head, List·Memᴰ·tail}
+use mathlib.Core.List.{List, [], _∷_, _++_, append-assoc, List·Memᴰ, List·Memᴰ·head, List·Memᴰ·tail}
 use mathlib.Core.Path.{_≡_, _∙_, refl, ap, ap₂}
 use Prim.Native.Nat.{ℕ, _+_, _*_}
 use lib.ListN.{drop, length, length-append, take}
 use lib.Seq.{drop-at, take-at}
 use native.Mathlib.Nat.{suc-mul, zero-mul}
 use native.Mathlib.Omega.{arith}
-use Rattle.record.specs.Table.{cut}
-use Rattle.rules.specs.Agreed.{_∈_}
-use Rattle.rules.specs.Run.{flat}
+use Rattle.record.specs.Table.{cut, flat}
 
 abbrev pub AllLong : ℕ → List (List ℕ) → Type 0
-AllLong w xs = (x : List ℕ) → x ∈ xs → length x ≡ w
+AllLong w xs = (x : List ℕ) → List·Memᴰ x xs → length x ≡ w
 
 pub flat-length : (w : ℕ) (xs : List (List ℕ)) → AllLong w xs → length (flat xs) ≡ length xs * w
 flat-length w [] h = omega (arith, zero-mul w)
