@@ -8,8 +8,7 @@ use borrow.Author.Tests.{eq-eqb, le-leb, le-ltb, lt-ltb, ltb-false, ltb-true, ne
 use lib.Dec.{eqb, ltb}
 use lib.ListN.{getD, length, length-append, List·getD-append}
 use Rattle.messages.proofs.Chain.{last, left-of, right-of, skip}
-use Rattle.record.specs.Lawful.{between}
-use Rattle.messages.specs.Tests.{all}
+use Rattle.messages.specs.Tests.{all, between}
 use Rattle.steptext.specs.Text.{Text, digit0, isDigit, isNumber, mostDigits, mostNumber, noNeedless0, valueFrom, valueOf}
 use Rattle.results.specs.Decimal.{ReadsBack, decimal, digits}
 

@@ -1,16 +1,14 @@
 -- What a run leaves, printed, is what the definitions print.
 use mathlib.Core.List.{List, [], _++_}
 use mathlib.Core.Path.{_≡_, _∙_, ap, ap₂}
-use Prim.Native.Nat.{ℕ, _*_, _%_, _≤_}
+use Prim.Native.Nat.{ℕ, _*_, _≤_}
 use native.Mathlib.Omega.{arith}
-use borrow.Author.Tests.{leb-true}
 use mathlib.Core.Bool.{true}
-use lib.Dec.{eqb, leb}
-use Rattle.messages.proofs.Chain.{right-of}
 use Rattle.messages.specs.Layout.{messageWidth}
 use lib.ListN.{drop, length, take}
 use lib.Seq.{take-at}
 use Rattle.record.proofs.Cut.{length-cut}
+use Rattle.record.proofs.Whole.{most}
 use Rattle.record.specs.Table.{Record, messages, mostRoom, roomOf, whole}
 use Rattle.rules.proofs.Runs.{left-is, verdicts-length}
 use Rattle.rules.specs.Run.{played, stepCount, stepWidth, stepsOf, verdicts}
@@ -21,9 +19,7 @@ use Rattle.results.specs.Rows.{replyLines, stepLines}
 
 -- the messages of a whole table are within it, and no more than it may have
 pub in-table : (t : List ℕ) (n : ℕ) → whole t ≡ true → n ≤ roomOf t → (n * messageWidth ≤ length t) × (n ≤ mostRoom)
-in-table t n w h =
-    let l = leb-true (length t) (mostRoom * messageWidth) (right-of (eqb (length t % messageWidth) 0) (leb (length t) (mostRoom * messageWidth)) w) in
-    (omega arith, omega arith)
+in-table t n w h = let l = most t w in (omega arith, omega arith)
 
 module _ (answers : ℕ) (t xs bytes : List ℕ) (n : ℕ) (table left : List ℕ) (plays : Plays answers t xs bytes n table left) where
   -- the bytes of the steps, and the messages

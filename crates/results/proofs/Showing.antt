@@ -1,21 +1,21 @@
 -- What the reader of a text answered, and what was then printed and left, is what the definitions say of the text.
-use mathlib.Core.Bool.{Bool, true, false, cond}
-use mathlib.Core.List.{List, [], _∷_, _++_, List·Memᴰ·append-cases, List·Memᴰ·eq-of-singleton, List·Memᴰ·not-nil}
+use mathlib.Core.Bool.{Bool, true, false, _&&_, cond}
+use mathlib.Core.List.{List, [], _∷_, _++_, append-nil, List·Memᴰ, List·Memᴰ·append-cases, List·Memᴰ·eq-of-singleton, List·Memᴰ·not-nil}
 use mathlib.Core.Logic.{⊎-elim}
 use mathlib.Core.Path.{_≡_, _∙_, refl, sym, ap, ap₂, subst}
 use Prim.Native.Nat.{ℕ, _+_, _*_, _/_, _≤_}
 use native.Mathlib.Nat.{zero-add}
 use native.Mathlib.Omega.{arith}
-use lib.Dec.{ltb}
+use lib.Dec.{leb, ltb}
 use lib.ListN.{drop, length, take}
 use lib.Seq.{take-at}
-use Rattle.record.specs.Table.{cut, flat, mostRoom}
+use Rattle.record.specs.Table.{cut, flat, mostRoom, roomOf}
+use Rattle.messages.specs.Layout.{messageWidth}
 use Rattle.record.proofs.Flat.{AllLong, cut-flat, flat-length}
-use Rattle.rules.specs.Agreed.{_∈_}
 use Rattle.rules.specs.Run.{mostSteps, over, played, stepCount, stepWidth, stepsOf}
 use Rattle.rules.specs.Step.{Step}
 use Rattle.steptext.proofs.Gathered.{seven}
-use Rattle.steptext.specs.Read.{Reading, answersOf, readLines, readSteps, readText, says, stepsIn, tooLong, unreadable}
+use Rattle.steptext.specs.Read.{Reading, mostBytes, readLines, readSteps, readText, says, stepsIn, tooLong, unreadable}
 use Rattle.steptext.specs.Text.{Text, answersIn, isAnswersLine, isStepLine, lines, stepIn}
 use Rattle.steptext.specs.Told.{Leaves, Tells}
 use Rattle.steptext.specs.declared.read.TextRead.the-variants.{Says, TooLong, Unreadable}
@@ -46,20 +46,20 @@ none-long x m = absurd (List·Memᴰ·not-nil m)
 
 more-long : (ss : List Step) (s : Step) → AllLong stepWidth ss → length s ≡ stepWidth → AllLong stepWidth (ss ++ (s ∷ []))
 more-long ss s h l x m =
-    ⊎-elim (λ (z : x ∈ ss). h x z) (λ (z : x ∈ (s ∷ [])). ap length (List·Memᴰ·eq-of-singleton z) ∙ l) (List·Memᴰ·append-cases ss m)
+    ⊎-elim (λ (z : List·Memᴰ x ss). h x z) (λ (z : List·Memᴰ x (s ∷ [])). ap length (List·Memᴰ·eq-of-singleton z) ∙ l) (List·Memᴰ·append-cases ss m)
 
 steps-long : (answers : ℕ) (ss : List Step) (ls : List Text) → AllLong stepWidth ss → AllLong stepWidth (stepsIn (readSteps answers ss ls))
 unfolding readSteps
 steps-long answers ss [] h = h
 steps-long answers ss (l ∷ ls) h =
-    by (isStepLine l) (ltb (length ss) mostSteps) refl
+    by (isStepLine l) (ltb (length ss) mostSteps) (readSteps answers (ss ++ (stepIn l ∷ [])) ls) refl
     (λ (e : isStepLine l ≡ true). steps-long answers (ss ++ (stepIn l ∷ [])) ls (more-long ss (stepIn l) h (seven l e)))
   where
-    by : (b c : Bool) {o : Reading} → isStepLine l ≡ b → (isStepLine l ≡ true → AllLong stepWidth (stepsIn o))
+    by : (b c : Bool) (o : Reading) → isStepLine l ≡ b → (isStepLine l ≡ true → AllLong stepWidth (stepsIn o))
         → AllLong stepWidth (stepsIn (cond b (cond c o tooLong) (unreadable (length ss + 2))))
-    by true true e next = next e
-    by true false e next = none-long
-    by false c e next = none-long
+    by true true o e next = next e
+    by true false o e next = none-long
+    by false c o e next = none-long
 
 lines-long : (ls : List Text) → AllLong stepWidth (stepsIn (readLines ls))
 unfolding readLines
@@ -108,5 +108,26 @@ pub shows : {text t out table left : List ℕ} {r most : ℕ} (o : Reading) → 
     → table ≡ recordLeft t o → most ≤ mostPrinted → Shows text t out r table left
 unfolding output
 shows {text} {t} {out} {table} {left} {r} {most} o e put kept h =
-    subst (λ (z : Reading). Shape z) e
-    (record {})
+    let bs = resultsOf mostRoom o in
+    let same : bs ≡ resultsOf mostRoom (reading text) = ap (resultsOf mostRoom) e in
+    record {
+      count = put .next ∙ zero-add (length bs) ∙ ap length same;
+      printed = put .table ∙ ap (λ (k : ℕ). bs ++ drop k out) (zero-add (length bs)) ∙ ap (λ (xs : Text). over xs out) same;
+      record-left = kept ∙ ap (recordLeft t) e;
+      within = omega (arith, put .within);
+    }
+
+-- a text that was read and played
+pub shows-played : {text t out table left steps : List ℕ} {r answers count : ℕ} (blank : List ℕ) → length t ≡ mostRoom * messageWidth
+    → Leaves (reading text) blank (Says answers count) steps
+    → Put out 0 (results answers (roomOf t) (stepsOf (take (count * stepWidth) steps))) mostPrinted left r
+    → table ≡ over (flat (played answers (roomOf t) [] (stepsOf (take (count * stepWidth) steps)))) t
+    → Shows text t out r table left
+shows-played {text} {t} {out} {table} {left} {steps} {r} {answers} {count} blank l w put kept =
+    let room : roomOf t ≡ mostRoom = omega arith in
+    let ss = stepsIn (reading text) in
+    let read : stepsOf (take (count * stepWidth) steps) ≡ ss = steps-read text blank steps answers count w in
+    shows (says answers ss) (is-says (reading text) answers count (w .tells) .0)
+    (subst (λ (bs : Text). Put out 0 bs mostPrinted left r) (ap₂ (results answers) room read) put)
+    (kept ∙ ap₂ (λ (k : ℕ) (zs : List Step). over (flat (played answers k [] zs)) t) room read)
+    (omega arith)

@@ -10,7 +10,7 @@ use borrow.Author.Tests.{eq-eqb, ne-eqb}
 use lib.Dec.{eqb}
 use lib.ListN.{drop, drop-of-length-le, getD, length, length-append, take}
 use lib.Seq.{drop-cons}
-use Rattle.record.proofs.Cut.{cut-at, length-cut}
+use Rattle.record.proofs.Cut.{cut-at, length-cut, take-messages}
 use Rattle.messages.specs.Layout.{messageWidth}
 use Rattle.messages.specs.Parts.{Message}
 use Rattle.record.specs.Table.{Record, messageIn, messages}
@@ -21,7 +21,6 @@ use Rattle.rules.specs.Report.{houseReply, replyMark, reportOn}
 use Rattle.rules.specs.Run.{verdicts}
 use Rattle.rules.specs.Said.{replyRow, replyRows, stepRows}
 use Rattle.rules.specs.Step.{Outcome, Step, accepted, judge, numberOf, placeOf, recordAfter, refused}
-use Rattle.runs.proofs.Standing.{take-messages}
 use Rattle.results.specs.Printed.{linesOf, replyLine, stepLine}
 use Rattle.results.specs.Rows.{countBy, lineAfter, lineIf, placeBy, rowsBy}
 

@@ -2,18 +2,12 @@
 use crate::put::put_byte;
 use crate::put::put_cell;
 use crate::put::put_number;
+use steptext::bytes::LINE_FEED;
 ghost use mathlib.Core.List.{[], _∷_};
 ghost use Prim.Native.Nat.{_+_, _≤_};
 ghost use lib.ListN.{length};
 ghost use Rattle.results.specs.Printed.{refusedLine, replyLine, stepLine};
 ghost use Rattle.results.specs.Put.{Put};
-
-pub const LINE_FEED: u8 = b'\n';
-
-// The most bytes of each, where a number has 5 digits.
-pub const STEP_LINE: usize = 18;
-
-pub const REPLY_LINE: usize = 26;
 
 pub fn put_step_line(out: &mut [u8], at: usize, ordinal: u16, number: u16, place: u16) -> usize
     requires { ⌜ at + 18 ≤ length (now out) ⌝ }

@@ -1,12 +1,11 @@
 // Bytes and numbers put into a lent table. Each function writes at a place and returns the next.
+use steptext::bytes::TAB;
 ghost use mathlib.Core.List.{[], _∷_};
 ghost use Prim.Native.Nat.{_+_, _≤_};
 ghost use lib.ListN.{length};
 ghost use Rattle.results.specs.Decimal.{decimal};
 ghost use Rattle.results.specs.Put.{Put};
 ghost use Rattle.steptext.specs.Text.{mostDigits, tab};
-
-pub const TAB: u8 = b'\t';
 
 pub fn put_byte(out: &mut [u8], at: usize, byte: u8) -> usize
     requires { ⌜ at + 1 ≤ length (now out) ⌝ }
