@@ -3,13 +3,13 @@ use mathlib.Core.Bool.{Bool, true, false, _&&_, cond}
 use mathlib.Core.List.{List, [], _∷_, _++_, append-nil, List·Memᴰ, List·Memᴰ·append-cases, List·Memᴰ·eq-of-singleton, List·Memᴰ·not-nil}
 use mathlib.Core.Logic.{⊎-elim}
 use mathlib.Core.Path.{_≡_, _∙_, refl, sym, ap, ap₂, subst}
-use Prim.Native.Nat.{ℕ, _+_, _*_, _/_, _≤_}
+use Prim.Native.Nat.{ℕ, _+_, _*_, _/_, _%_, _≤_}
 use native.Mathlib.Nat.{zero-add}
 use native.Mathlib.Omega.{arith}
-use lib.Dec.{leb, ltb}
-use lib.ListN.{drop, length, take}
+use lib.Dec.{eqb, leb, ltb}
+use lib.ListN.{drop, length, length-replicate, replicate, take}
 use lib.Seq.{take-at}
-use Rattle.record.specs.Table.{cut, flat, mostRoom, roomOf}
+use Rattle.record.specs.Table.{cut, flat, mostRoom, roomOf, whole}
 use Rattle.messages.specs.Layout.{messageWidth}
 use Rattle.record.proofs.Flat.{AllLong, cut-flat, flat-length}
 use Rattle.rules.specs.Run.{mostSteps, over, played, stepCount, stepWidth, stepsOf}
@@ -18,11 +18,25 @@ use Rattle.steptext.proofs.Gathered.{seven}
 use Rattle.steptext.specs.Read.{Reading, mostBytes, readLines, readSteps, readText, says, stepsIn, tooLong, unreadable}
 use Rattle.steptext.specs.Text.{Text, answersIn, isAnswersLine, isStepLine, lines, stepIn}
 use Rattle.steptext.specs.Told.{Leaves, Tells}
+use Rattle.steptext.specs.declared.read.TextRead.{TextRead}
 use Rattle.steptext.specs.declared.read.TextRead.the-variants.{Says, TooLong, Unreadable}
 use Rattle.results.specs.Printed.{output, reading, results, resultsOf}
 use Rattle.results.specs.Put.{Put}
 use Rattle.results.specs.Rows.{mostPrinted}
 use Rattle.results.specs.Shown.{Shows, recordLeft}
+
+-- the program's step table before a text is read into it, and the answer of the reader by its case
+abbrev pub blank : List ℕ
+blank = replicate (mostSteps * stepWidth) 0
+
+pub told : (text : Text) {steps : List ℕ} {r r′ : TextRead} → r ≡ r′ → Leaves (readText (length blank) text) blank r steps
+    → Leaves (reading text) blank r′ steps
+told text {steps} {r} {r′} e w =
+    subst (λ (k : ℕ). Leaves (readText k text) blank r′ steps) (length-replicate {A = ℕ} (mostSteps * stepWidth) 0)
+    (subst (λ (x : TextRead). Leaves (readText (length blank) text) blank x steps) e w)
+
+pub whole-most : (t : List ℕ) → length t ≡ mostRoom * messageWidth → whole t ≡ true
+whole-most t l = ap (λ (k : ℕ). eqb (k % messageWidth) 0 && leb k (mostRoom * messageWidth)) l
 
 -- the answer of the reader decides what was read
 pub is-says : (o : Reading) (answers count : ℕ) → Tells o (Says answers count) → (says answers (stepsIn o) ≡ o) × (count ≡ length (stepsIn o))
@@ -118,12 +132,12 @@ shows {text} {t} {out} {table} {left} {r} {most} o e put kept h =
     }
 
 -- a text that was read and played
-pub shows-played : {text t out table left steps : List ℕ} {r answers count : ℕ} (blank : List ℕ) → length t ≡ mostRoom * messageWidth
+pub shows-played : {text t out table left steps : List ℕ} {r answers count : ℕ} → length t ≡ mostRoom * messageWidth
     → Leaves (reading text) blank (Says answers count) steps
     → Put out 0 (results answers (roomOf t) (stepsOf (take (count * stepWidth) steps))) mostPrinted left r
     → table ≡ over (flat (played answers (roomOf t) [] (stepsOf (take (count * stepWidth) steps)))) t
     → Shows text t out r table left
-shows-played {text} {t} {out} {table} {left} {steps} {r} {answers} {count} blank l w put kept =
+shows-played {text} {t} {out} {table} {left} {steps} {r} {answers} {count} l w put kept =
     let room : roomOf t ≡ mostRoom = omega arith in
     let ss = stepsIn (reading text) in
     let read : stepsOf (take (count * stepWidth) steps) ≡ ss = steps-read text blank steps answers count w in
