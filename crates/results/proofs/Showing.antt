@@ -8,7 +8,7 @@ use native.Mathlib.Nat.{zero-add}
 use native.Mathlib.Omega.{arith}
 use lib.Dec.{eqb, leb, ltb}
 use lib.ListN.{drop, length, length-replicate, replicate, take}
-use lib.Seq.{take-at}
+use lib.Seq.{length-take-le, take-at}
 use Rattle.record.specs.Table.{cut, flat, mostRoom, roomOf, whole}
 use Rattle.messages.specs.Layout.{messageWidth}
 use Rattle.record.proofs.Flat.{AllLong, cut-flat, flat-length}
@@ -119,29 +119,31 @@ module _ (text t left : List ℕ) (answers count : ℕ) (w : Leaves (reading tex
 
 -- what was put and left, by what was read
 pub shows : {text t out table left : List ℕ} {r most : ℕ} (o : Reading) → o ≡ reading text → Put out 0 (resultsOf mostRoom o) most left r
-    → table ≡ recordLeft t o → most ≤ mostPrinted → Shows text t out r table left
+    → table ≡ recordLeft t o → most ≤ length out → Shows text t out r table left
 unfolding output
 shows {text} {t} {out} {table} {left} {r} {most} o e put kept h =
     let bs = resultsOf mostRoom o in
     let same : bs ≡ resultsOf mostRoom (reading text) = ap (resultsOf mostRoom) e in
+    let inside : r ≤ length left = omega (arith, put .within, put .long) in
     record {
       count = put .next ∙ zero-add (length bs) ∙ ap length same;
       printed = put .table ∙ ap (λ (k : ℕ). bs ++ drop k out) (zero-add (length bs)) ∙ ap (λ (xs : Text). over xs out) same;
       record-left = kept ∙ ap (recordLeft t) e;
-      within = omega (arith, put .within);
+      within = inside;
+      part = sym (length-take-le r left inside);
     }
 
 -- a text that was read and played
-pub shows-played : {text t out table left steps : List ℕ} {r answers count : ℕ} → length t ≡ mostRoom * messageWidth
+pub shows-played : {text t out table left steps : List ℕ} {r answers count : ℕ} → length t ≡ mostRoom * messageWidth → mostPrinted ≤ length out
     → Leaves (reading text) blank (Says answers count) steps
     → Put out 0 (results answers (roomOf t) (stepsOf (take (count * stepWidth) steps))) mostPrinted left r
     → table ≡ over (flat (played answers (roomOf t) [] (stepsOf (take (count * stepWidth) steps)))) t
     → Shows text t out r table left
-shows-played {text} {t} {out} {table} {left} {steps} {r} {answers} {count} l w put kept =
+shows-played {text} {t} {out} {table} {left} {steps} {r} {answers} {count} l fits w put kept =
     let room : roomOf t ≡ mostRoom = omega arith in
     let ss = stepsIn (reading text) in
     let read : stepsOf (take (count * stepWidth) steps) ≡ ss = steps-read text blank steps answers count w in
     shows (says answers ss) (is-says (reading text) answers count (w .tells) .0)
     (subst (λ (bs : Text). Put out 0 bs mostPrinted left r) (ap₂ (results answers) room read) put)
     (kept ∙ ap₂ (λ (k : ℕ) (zs : List Step). over (flat (played answers k [] zs)) t) room read)
-    (omega arith)
+    fits

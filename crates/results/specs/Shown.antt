@@ -2,12 +2,11 @@
 use Prim.Native.Nat.{ℕ, _≤_}
 use mathlib.Core.List.{List, []}
 use mathlib.Core.Path.{_≡_}
-use lib.ListN.{length}
+use lib.ListN.{length, take}
 use Rattle.record.specs.Table.{flat, mostRoom}
 use Rattle.rules.specs.Run.{over, played}
 use Rattle.steptext.specs.Read.{Reading, says, tooLong, unreadable}
 use Rattle.results.specs.Printed.{output, reading}
-use Rattle.results.specs.Rows.{mostPrinted}
 
 -- the record table; a refused text leaves it as found
 abbrev pub recordLeft : List ℕ → Reading → List ℕ
@@ -20,5 +19,6 @@ pub record Shows (text t out : List ℕ) (r : ℕ) (table out-left : List ℕ) :
   pub count : r ≡ length (output mostRoom text)
   pub printed : out-left ≡ over (output mostRoom text) out
   pub record-left : table ≡ recordLeft t (reading text)
-  -- so they are within those lent
-  pub within : r ≤ mostPrinted
+  -- so they are a part of those lent, as a caller wants to hear it that lends just them on
+  pub within : r ≤ length out-left
+  pub part : r ≡ length (take r out-left)
