@@ -196,7 +196,7 @@ fn is_outside(mark: Mark) -> bool
     mark.seller.0 == 0
 }
 
-fn report_on(t: &[u16], earlier: usize, mark: Mark) -> u8
+pub fn report_on(t: &[u16], earlier: usize, mark: Mark) -> u8
     requires { ⌜ earlier * messageWidth ≤ length (now t) ⌝ }
     ensures { λ r. ⌜ r ≡ reportOn (messages earlier (now (t .entry))) mark ⌝ }
 {
@@ -209,7 +209,7 @@ fn report_on(t: &[u16], earlier: usize, mark: Mark) -> u8
     22
 }
 
-fn is_house_reply(m: &[u16]) -> bool
+pub fn is_house_reply(m: &[u16]) -> bool
     requires { ⌜ length (now m) ≡ messageWidth ⌝ }
     ensures { λ r. ⌜ r ≡ houseReply (now (m .entry)) ⌝ }
 {

@@ -1,0 +1,5 @@
+pub mod Decimal
+pub mod Printed
+pub mod Put
+pub mod Rows
+pub mod Shown
