@@ -17,7 +17,7 @@ use Rattle.rules.specs.Items.{eachArgument, placed}
 use Rattle.rules.specs.Step.{argumentsOf, codeOf}
 
 -- a place up to n is within the table
-pub in-table : {n : ℕ} {t s : List ℕ} (ready : Ready n t s) {p : ℕ} → p ≤ n → p * messageWidth ≤ length t
+pub in-table : {n : ℕ} {t row s : List ℕ} (ready : Ready n t row s) {p : ℕ} → p ≤ n → p * messageWidth ≤ length t
 in-table ready h = le-trans (mul-le-mul-right messageWidth h) (ready .room)
 
 -- places up to n are places of the table
@@ -39,8 +39,8 @@ all-wider n m h (k ∷ ks) [] e =
 all-wider n m h (k ∷ ks) (x ∷ xs) e =
     sym (skip (wider n m h k x (left-of (placed n k x) _ e)) (sym (all-wider n m h ks xs (right-of (placed n k x) _ e))))
 
-pub for-table : {n : ℕ} {t s : List ℕ} → Ready n t s → Ready (roomOf t) t s
-for-table {n} {t} {s} ready =
+pub for-table : {n : ℕ} {t row s : List ℕ} → Ready n t row s → Ready (roomOf t) t row s
+for-table {n} {t} {s = s} ready =
     record {
       known = ready .known;
       room = omega arith;
