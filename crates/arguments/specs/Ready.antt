@@ -22,3 +22,7 @@ pub record Ready (n : ℕ) (t row s : List ℕ) : Type 0 where
   pub known : Known row s
   pub room : n * messageWidth ≤ length t
   pub places : eachArgument (placed n) (rowOf (codeOf s) .takes) (argumentsOf s) ≡ true
+
+-- the same for code that reads no row
+abbrev pub ReadyStep : ℕ → List ℕ → List ℕ → Type 0
+ReadyStep n t s = Ready n t (rowLetters (rowOf (codeOf s))) s
