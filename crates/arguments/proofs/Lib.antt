@@ -1,3 +1,4 @@
+pub mod Ends
 pub mod Lowest
 pub mod Places
 pub mod Takes

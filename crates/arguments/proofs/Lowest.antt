@@ -95,7 +95,22 @@ most-nine true false c = omega arith
 most-nine true true false = omega arith
 most-nine true true true = omega arith
 
+least-three : (a b c : Bool) → 3 ≤ three a b c
+unfolding three
+least-three false b c = omega arith
+least-three true false c = omega arith
+least-three true true false = omega arith
+least-three true true true = omega arith
+
+pub fault-least : (n : ℕ) (R : Record) (k : Argument) (x : ℕ) → 3 ≤ faultOf n R k x
+unfolding three
+fault-least n R k x = least-three (inRange k x) (placed n k x) (holding R k x)
+
 -- the step's number from argument i on
+pub at-least : (n : ℕ) (R : Record) (ks : List Argument) (xs : List ℕ) → 3 ≤ faults n R ks xs
+unfolding three
+at-least n R ks xs = least-three (eachArgument inRange ks xs) (eachArgument (placed n) ks xs) (eachArgument (holding R) ks xs)
+
 pub at-most : (n : ℕ) (R : Record) (ks : List Argument) (xs : List ℕ) → faults n R ks xs ≤ 9
 unfolding three
 at-most n R ks xs = most-nine (eachArgument inRange ks xs) (eachArgument (placed n) ks xs) (eachArgument (holding R) ks xs)
@@ -139,6 +154,17 @@ turn n R {s = s} known i f first next l e inv p =
   where
     lowest : (x y z v w u : ℕ) → v ≡ min y w → min x v ≡ u → z ≡ min x y → min z w ≡ u
     lowest x y z v w u a b c = omega arith
+
+-- 3 is the lowest: with an argument that gives it the step has it
+pub three-found : (n : ℕ) (R : Record) {row s : List ℕ} (known : Known row s) (i f first : ℕ) → i < 6
+    → f ≡ faultOf n R (getD (rowOf (codeOf s) .takes) i Argument.unused) (getD s (i + 1) 0)
+    → min first (faults n R (drop i (rowOf (codeOf s) .takes)) (drop i (argumentsOf s))) ≡ faults n R (rowOf (codeOf s) .takes) (argumentsOf s)
+    → f ≡ 3 → 3 ≤ first → 3 ≡ faults n R (rowOf (codeOf s) .takes) (argumentsOf s)
+three-found n R {s = s} known i f first l e inv p h =
+    low _ _ (turn n R known i f first 3 l e inv (omega arith)) (at-least n R (drop (i + 1) (rowOf (codeOf s) .takes)) (drop (i + 1) (argumentsOf s)))
+  where
+    low : (x y : ℕ) → min 3 x ≡ y → 3 ≤ x → 3 ≡ y
+    low x y a b = omega arith
 
 -- past the last argument
 pub none-left : (n : ℕ) (R : Record) {row s : List ℕ} (known : Known row s) (i first : ℕ) → i ≡ 6 → first ≤ 9

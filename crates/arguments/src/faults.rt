@@ -6,17 +6,21 @@ use messages::parts::Place;
 use record::table::message;
 ghost use mathlib.Core.Path.{_≡_};
 ghost use Prim.Native.Nat.{_*_, _≤_};
-ghost use lib.ListN.{length};
+ghost use lib.ListN.{drop, length};
 ghost use Rattle.messages.specs.Layout.{messageWidth};
+ghost use Rattle.messages.specs.Tests.{all};
 ghost use Rattle.record.specs.Table.{messages};
 ghost use Rattle.rules.specs.Codes.{Argument, letter as letterOf, rowOf};
 ghost use Rattle.rules.specs.Step.{argumentsOf, codeOf};
-ghost use Rattle.arguments.specs.Faults.{faultOf, faults, placeFault, rangeFault, unusedFault};
+ghost use Rattle.arguments.specs.Faults.{faultOf, faults, isZero, placeFault, rangeFault, unusedFault};
 ghost use Rattle.arguments.specs.Letters.{argumentLettered};
 ghost use Rattle.arguments.specs.Ready.{Known};
 
 // No refusal; above every number of one.
 pub const FINE: u8 = 9;
+
+// The letter of an argument that a code does not have.
+const UNUSED: u8 = b'-';
 
 fn unused_fault(x: u16) -> u8
     ensures { λ r. ⌜ r ≡ unusedFault x ⌝ }
@@ -81,6 +85,22 @@ fn fault(t: &[u16], n: usize, letter: u8, x: u16) -> u8
     }
 }
 
+// Whether the arguments from a position on are all 0.
+fn all_unused(s: &[u16], from: usize) -> bool
+    requires { ⌜ (length (now s) ≡ 7) × (from ≤ 6) ⌝ }
+    ensures { λ r. ⌜ r ≡ all isZero (drop from (argumentsOf (now (s .entry)))) ⌝ }
+{
+    let mut i = from;
+    while i < MOST_ARGUMENTS {
+        if s[i + 1] != 0 {
+            return false;
+        }
+        i += 1;
+    }
+    true
+}
+
+// A row has nothing after its first unused argument, so from there on only zeros are looked for. A 3 is the lowest and ends the search.
 pub fn first_fault(t: &[u16], n: usize, row: &[u8], s: &[u16]) -> u8
     requires { ⌜ (n * messageWidth ≤ length (now t)) × Known (now row) (now s) ⌝ }
     ensures { λ r. ⌜ r ≡ faults n (messages n (now (t .entry))) (rowOf (codeOf (now (s .entry))) .takes) (argumentsOf (now (s .entry))) ⌝ }
@@ -88,7 +108,17 @@ pub fn first_fault(t: &[u16], n: usize, row: &[u8], s: &[u16]) -> u8
     let mut first = FINE;
     let mut i = 0;
     while i < MOST_ARGUMENTS {
-        let found = fault(t, n, row[i], s[i + 1]);
+        let letter = row[i];
+        if letter == UNUSED {
+            if !all_unused(s, i) {
+                return 3;
+            }
+            return first;
+        }
+        let found = fault(t, n, letter, s[i + 1]);
+        if found == 3 {
+            return 3;
+        }
         if found < first {
             first = found;
         }
