@@ -19,9 +19,6 @@ itself k = k
 abbrev pub isZero : ℕ → Bool
 isZero x = eqb x 0
 
-abbrev pub unusedFault : ℕ → ℕ
-unusedFault x = through (3 unless isZero x ∷ []) itself fine
-
 abbrev pub rangeFault : ℕ → ℕ → ℕ → ℕ
 rangeFault least x most = through (3 unless between least x most ∷ []) itself fine
 

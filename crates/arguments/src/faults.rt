@@ -10,9 +10,9 @@ ghost use lib.ListN.{drop, length};
 ghost use Rattle.messages.specs.Layout.{messageWidth};
 ghost use Rattle.messages.specs.Tests.{all};
 ghost use Rattle.record.specs.Table.{messages};
-ghost use Rattle.rules.specs.Codes.{Argument, letter as letterOf, rowOf};
+ghost use Rattle.rules.specs.Codes.{Argument, letter as letterOf, rowOf, unused};
 ghost use Rattle.rules.specs.Step.{argumentsOf, codeOf};
-ghost use Rattle.arguments.specs.Faults.{faultOf, faults, isZero, placeFault, rangeFault, unusedFault};
+ghost use Rattle.arguments.specs.Faults.{faultOf, faults, isZero, placeFault, rangeFault};
 ghost use Rattle.arguments.specs.Letters.{argumentLettered};
 ghost use Rattle.arguments.specs.Ready.{Known};
 
@@ -21,15 +21,6 @@ pub const FINE: u8 = 9;
 
 // The letter of an argument that a code does not have.
 const UNUSED: u8 = b'-';
-
-fn unused_fault(x: u16) -> u8
-    ensures { λ r. ⌜ r ≡ unusedFault x ⌝ }
-{
-    if x == 0 {
-        return FINE;
-    }
-    3
-}
 
 fn range_fault(least: u16, x: u16, most: u16) -> u8
     ensures { λ r. ⌜ r ≡ rangeFault least x most ⌝ }
@@ -71,12 +62,12 @@ fn account_fault(t: &[u16], n: usize, x: u16) -> u8
     place_fault(t, n, b'a', x)
 }
 
+// An argument that the code has.
 fn fault(t: &[u16], n: usize, letter: u8, x: u16) -> u8
-    requires { ⌜ n * messageWidth ≤ length (now t) ⌝ }
+    requires { ⌜ (n * messageWidth ≤ length (now t)) × (letter ≡ letterOf unused → ⊥) ⌝ }
     ensures { λ r. ⌜ ((k : Argument) → letterOf k ≡ letter → r ≡ faultOf n (messages n (now (t .entry))) k x) ⌝ }
 {
     match letter {
-        b'-' => unused_fault(x),
         b'B' => range_fault(0, x, 15),
         b'S' => range_fault(0, x, 15),
         b'c' => range_fault(1, x, 2),

@@ -94,7 +94,7 @@ first-fault-spec =
     (λ c. omega arith)
     (λ c. omega arith)
     (λ c. omega (arith, c .before .before .before .before .before .before .before .before .pre .1 .seven))
-    (λ c κs. c .before .before .before .before .before .before .before .before .pre .0)
+    (λ c κs. (c .before .before .before .before .before .before .before .before .pre .0, c .before .if1 .left))
     returns-3
     (λ c. omega arith)
     (λ c. omega arith)
