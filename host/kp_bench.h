@@ -7,7 +7,8 @@
  * Numbers returned: 0 accepted; 1 the record is not lawful (its length, its count or a message); 2 no such code; 3 a party or response
  * code out of range, or an unused argument not 0; 4 no such place; 5 a message named holds no such item or has the wrong kind; 6 an
  * honest step's condition does not hold; 7 all room is used; 8 the list is not a whole number of steps, or over 1,024; 9 fewer verdict
- * bytes than steps; 20, 21, 22 the report on a reply.
+ * bytes than steps; 10 a line of a text is unreadable; 11 the text is too long or the step table too short; 20, 21, 22 the report on a
+ * reply.
  */
 #ifndef KP_BENCH_H
 #define KP_BENCH_H
@@ -30,5 +31,12 @@ uint8_t kp_run(uint16_t *record, size_t record_len, uint16_t answers, const uint
 /* The report on the reply at a place of a record of n messages: 20 all four messages of its payment stand earlier; 21 its buyer and
  * seller are both the outsider; 22 otherwise. Refused: 1, 4, and 5 if there is no reply made by gateway 1 at that place. */
 uint8_t kp_report(const uint16_t *record, size_t record_len, size_t n, size_t place);
+
+/* A step text read into a table of steps, 7 numbers each. Read (0), *answers are its account answers, *count its steps, which stand at
+ * the front of the table, and *line is 0; later numbers of the table stay. Refused, the table is as it was, *answers and *count are 0,
+ * and *line is the first unreadable line for 10, or 0 for 11: more than 16,384 bytes, a table of fewer than 7,168 numbers, or more than
+ * 1,024 steps. answers, count and line must not be NULL. */
+uint8_t kp_read(const uint8_t *text, size_t text_len, uint16_t *steps, size_t steps_len, uint16_t *answers, uint16_t *count,
+                uint16_t *line);
 
 #endif

@@ -1,5 +1,5 @@
 //! Says where the static library of the proved engine is: in the directory
-//! that KP_LIB names. Only the comparison links it.
+//! that KP_LIB names. Only the comparison and the benchmark link it.
 
 fn main() {
     println!("cargo::rerun-if-env-changed=KP_LIB");

@@ -6,12 +6,16 @@ use runs::run::Ran;
 use runs::run::run;
 use step::judge::Answer;
 use step::judge::step;
+use steptext::read::TextRead;
+use steptext::read::read_text;
 ghost use mathlib.Core.List.{[], _∷_};
 ghost use mathlib.Core.Path.{_≡_};
-ghost use Rattle.host.specs.Entries.{Ran as RanBy, Stepped};
+ghost use lib.ListN.{length};
+ghost use Rattle.host.specs.Entries.{Ran as RanBy, Read, Stepped};
 ghost use Rattle.rules.specs.Report.{report as reportOf};
 ghost use Rattle.rules.specs.Run.{run as runOf};
 ghost use Rattle.rules.specs.Step.{judgeTable};
+ghost use Rattle.steptext.specs.Read.{readText};
 
 #[no_mangle]
 pub extern "C" fn kp_step(
@@ -68,4 +72,36 @@ pub extern "C" fn kp_report(table: &[u16], n: usize, place: usize) -> u8
     ensures { λ r. ⌜ r ≡ reportOf n (now (table .entry)) (record { 0 = place }) ⌝ }
 {
     report(table, n, Place(place))
+}
+
+#[no_mangle]
+pub extern "C" fn kp_read(
+    text: &[u8],
+    steps: &mut [u16],
+    answers: &mut u16,
+    count: &mut u16,
+    line: &mut u16,
+) -> u8
+    ensures { λ r. ⌜ Read (now (steps .entry)) (readText (length (now (steps .entry))) (now (text .entry))) r (now (answers .exit)) (now (count .exit)) (now (line .exit)) (now (steps .exit)) ⌝ }
+{
+    match read_text(text, steps) {
+        TextRead::Says(said, n) => {
+            *answers = said;
+            *count = n as u16;
+            *line = 0;
+            0
+        }
+        TextRead::Unreadable(at) => {
+            *answers = 0;
+            *count = 0;
+            *line = at as u16;
+            10
+        }
+        TextRead::TooLong => {
+            *answers = 0;
+            *count = 0;
+            *line = 0;
+            11
+        }
+    }
 }

@@ -10,10 +10,11 @@ ghost use lib.ListN.{getD, length};
 ghost use Rattle.messages.specs.Tests.{between};
 ghost use Rattle.record.specs.Lawful.{fits, kindRanges, lawful, rangeLettered, within};
 ghost use Rattle.messages.specs.Layout.{messageWidth};
+ghost use Rattle.record.specs.Lent.{rangeLetters};
 
 // What each position may hold, a row for each kind from Initiate to Auth-Response. K is a kind, B a buyer, S a seller, G a
 // gateway, A an account, D a draw, C a response code; a position with - is unused.
-const RANGES: [u8; 240] = *b"\
+pub const RANGES: [u8; 240] = *b"\
 KBBSBDA-----------------------------------------\
 KSSBSBBDASSBBDA---------------------------------\
 KBBSGSBBDAABDBGSBBDAABDSBBDA--------------------\
@@ -47,6 +48,15 @@ fn bounded(least: u16, x: u16, most: u16) -> bool
 pub fn is_lawful(m: &[u16]) -> bool
     ensures { λ r. ⌜ r ≡ lawful (now (m .entry)) ⌝ }
 {
+    let ranges = RANGES;
+    is_lawful_by(&ranges, m)
+}
+
+// The same for many messages: a constant is written anew at each place that reads it, so the table is lent.
+pub fn is_lawful_by(ranges: &[u8], m: &[u16]) -> bool
+    requires { ⌜ now ranges ≡ rangeLetters ⌝ }
+    ensures { λ r. ⌜ r ≡ lawful (now (m .entry)) ⌝ }
+{
     if m.len() != MESSAGE_WIDTH {
         return false;
     }
@@ -57,18 +67,18 @@ pub fn is_lawful(m: &[u16]) -> bool
     if AUTH_RESPONSE < kind {
         return false;
     }
-    in_row((kind - INITIATE) as usize, m)
+    in_row(ranges, (kind - INITIATE) as usize, m)
 }
 
 // Whether each number of a message is in the range that a row of the table gives it.
-fn in_row(row: usize, m: &[u16]) -> bool
-    requires { ⌜ (row < 5) × (length (now m) ≡ messageWidth) ⌝ }
+fn in_row(ranges: &[u8], row: usize, m: &[u16]) -> bool
+    requires { ⌜ (now ranges ≡ rangeLetters) × (row < 5) × (length (now m) ≡ messageWidth) ⌝ }
     ensures { λ r. ⌜ r ≡ fits (getD kindRanges row []) (now (m .entry)) ⌝ }
 {
     let first = row * MESSAGE_WIDTH;
     let mut i = 0;
     while i < MESSAGE_WIDTH {
-        if !in_range(RANGES[first + i], m[i]) {
+        if !in_range(ranges[first + i], m[i]) {
             return false;
         }
         i += 1;

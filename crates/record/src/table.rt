@@ -1,12 +1,16 @@
 // The record: a flat table of numbers, 48 to a message, and how many messages stand in it.
-use crate::lawful::is_lawful;
+use crate::lawful::RANGES;
+use crate::lawful::is_lawful_by;
 use messages::layout::MESSAGE_WIDTH;
 use messages::parts::Place;
 ghost use mathlib.Core.Path.{_≡_};
 ghost use Prim.Native.Nat.{_*_, _+_, _≤_};
 ghost use lib.ListN.{length};
 ghost use Rattle.messages.specs.Layout.{messageWidth};
-ghost use Rattle.record.specs.Table.{lawfulRecord, messageIn, roomOf, whole, withMessage, withNumbers};
+ghost use Rattle.messages.specs.Tests.{all};
+ghost use Rattle.record.specs.Lawful.{lawful};
+ghost use Rattle.record.specs.Lent.{rangeLetters};
+ghost use Rattle.record.specs.Table.{lawfulRecord, messageIn, messages, roomOf, whole, withMessage, withNumbers};
 
 pub const MOST_ROOM: usize = 512;
 
@@ -47,9 +51,18 @@ pub fn is_lawful_record(t: &[u16], n: usize) -> bool
     if room(t) < n {
         return false;
     }
+    let ranges = RANGES;
+    are_lawful(&ranges, t, n)
+}
+
+// Messages 1 to n, with the table of ranges lent.
+fn are_lawful(ranges: &[u8], t: &[u16], n: usize) -> bool
+    requires { ⌜ (now ranges ≡ rangeLetters) × (n * messageWidth ≤ length (now t)) ⌝ }
+    ensures { λ r. ⌜ r ≡ all lawful (messages n (now (t .entry))) ⌝ }
+{
     let mut i = 0;
     while i < n {
-        if !is_lawful(message(t, Place(i + 1))) {
+        if !is_lawful_by(ranges, message(t, Place(i + 1))) {
             return false;
         }
         i += 1;

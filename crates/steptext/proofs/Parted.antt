@@ -88,19 +88,40 @@ line-within t at h =
     let d = length-drop at t in
     (omega arith, omega arith)
 
--- as parts of the text, for the three ways in which the code hands a line over
+-- what the code finds of a line: where it ends, and the bytes up to there
+take-taken : (k : ℕ) (t : Text) → take (length (take k t)) t ≡ take k t
+take-taken zero t = refl
+take-taken (suc k) [] = refl
+take-taken (suc k) (x ∷ t) = ap (λ (z : Text). x ∷ z) (take-taken k t)
+
 module _ (t : Text) (at : ℕ) where
+  pub none-starts : length t ≤ at → at ≡ at + length (lineAt t at)
+  none-starts h = let e = ap length (line-past t at h) in omega arith
+
+  long : at < length t → length (lineAt t at) ≡ length (take (suc (before lineFeed (drop at t))) (drop at t))
+  long h = ap length (line-here t at h)
+
+  pub ends-last : at < length t → length t ≡ at + before lineFeed (drop at t) → length t ≡ at + length (lineAt t at)
+  ends-last h e =
+      let k = before lineFeed (drop at t) in
+      let n = long h ∙ length-take (suc k) (drop at t) in
+      let d = length-drop at t in
+      omega arith
+
+  pub ends-here : (end : ℕ) → at < length t → end ≡ at + before lineFeed (drop at t) → end < length t
+      → end + 1 ≡ at + length (lineAt t at)
+  ends-here end h e w =
+      let k = before lineFeed (drop at t) in
+      let n = long h ∙ length-take (suc k) (drop at t) in
+      let d = length-drop at t in
+      omega arith
+
   pub no-line : length t ≤ at → take (length t - length t) (drop (length t) t) ≡ lineAt t at
   no-line h = ap (take (length t - length t)) (drop-length t) ∙ take-nil (length t - length t) ∙ sym (line-past t at h)
 
-  pub last-line : at < length t → length t ≡ at + before lineFeed (drop at t) → take (length t - at) (drop at t) ≡ lineAt t at
-  last-line h e =
-      let d = length-drop at t in
-      take-all (length t - at) (drop at t) (omega arith)
-      ∙ sym (take-all (suc (before lineFeed (drop at t))) (drop at t) (omega arith))
-      ∙ sym (line-here t at h)
-
-  pub line-to : (end : ℕ) → at < length t → end ≡ at + before lineFeed (drop at t) → take (end + 1 - at) (drop at t) ≡ lineAt t at
+  pub line-to : (end : ℕ) → at < length t → end ≡ at + length (lineAt t at) → take (end - at) (drop at t) ≡ lineAt t at
   line-to end h e =
-      let k : end + 1 - at ≡ suc (before lineFeed (drop at t)) = omega arith in
-      ap (λ (j : ℕ). take j (drop at t)) k ∙ sym (line-here t at h)
+      let n : end - at ≡ length (lineAt t at) = omega arith in
+      ap (λ (j : ℕ). take j (drop at t)) (n ∙ long h)
+      ∙ take-taken (suc (before lineFeed (drop at t))) (drop at t)
+      ∙ sym (line-here t at h)

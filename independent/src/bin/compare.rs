@@ -10,47 +10,21 @@
 
 #[path = "../inputs/dice.rs"]
 mod dice;
+#[path = "../engine.rs"]
+mod engine;
 #[path = "../inputs/playing.rs"]
 mod playing;
 #[path = "../inputs/records.rs"]
 mod records;
 
 use dice::Dice;
+use engine::{kp_report, kp_run, kp_step};
 use independent::{report, run, step, takes, Arg, Words, MAX_STEPS, ROOM, STEP, WIDTH};
 use playing::List;
 use records::{Few, Session};
 use std::fmt::Write;
 use std::time::Instant;
 use std::{env, process, ptr};
-
-#[link(name = "host", kind = "static")]
-extern "C" {
-    fn kp_step(
-        record: *mut u16,
-        record_len: usize,
-        n: usize,
-        answers: u16,
-        code: u16,
-        a1: u16,
-        a2: u16,
-        a3: u16,
-        a4: u16,
-        a5: u16,
-        a6: u16,
-        place: *mut u16,
-    ) -> u8;
-    fn kp_run(
-        record: *mut u16,
-        record_len: usize,
-        answers: u16,
-        steps: *const u16,
-        steps_len: usize,
-        verdicts: *mut u8,
-        verdicts_len: usize,
-        n: *mut u16,
-    ) -> u8;
-    fn kp_report(record: *const u16, record_len: usize, n: usize, place: usize) -> u8;
-}
 
 /// Lists of ordinary length, lists that use all steps, records with a session
 /// and one number changed, records of any lawful messages, and records of

@@ -1,8 +1,9 @@
 -- `host::kp_run` meets its promise.
 use borrow.Author.Needs.{needs}
-use mathlib.Core.Path.{_∙_, ap, sym}
+use mathlib.Core.Path.{ap}
 use native.Mathlib.Omega.{arith}
-use Rattle.runs.specs.Ran.{ranCount, ranNumber}
+use Rattle.runs.specs.Ran.{ranCount}
+use Rattle.host.proofs.Answers.{ran-as}
 use Rattle.host.proofs.kp_run.Statement.{statement}
 use Rattle.host.proofs.kp_run.Tie as tie
 
@@ -14,12 +15,12 @@ cast-n c =
 returns : tie.Need-returns
 returns c =
     let the-run = c .before .before .before .before .before .before .before .run in
-    record { number = ap ranNumber (sym (c .before .count .given .1)) ∙ the-run .ensures .number; count = ap ranCount (sym (c .before .count .given .1)) ∙ the-run .ensures .n; table-left = the-run .ensures .table-left; bytes-left = the-run .ensures .bytes-left }
+    ran-as _ _ _ _ _ (the-run .ensures) (c .before .count .given .1)
 
 returns-2 : tie.Need-returns-2
 returns-2 c =
     let the-run = c .before .before .before .before .before .before .before .run in
-    record { number = ap ranNumber (sym (c .before .number .given .1)) ∙ the-run .ensures .number; count = ap ranCount (sym (c .before .number .given .1)) ∙ the-run .ensures .n; table-left = the-run .ensures .table-left; bytes-left = the-run .ensures .bytes-left }
+    ran-as _ _ _ _ _ (the-run .ensures) (c .before .number .given .1)
 
 pub kp-run-spec : {M : Type 1} → statement M
 kp-run-spec =

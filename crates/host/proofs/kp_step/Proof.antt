@@ -1,8 +1,9 @@
 -- `host::kp_step` meets its promise.
 use borrow.Author.Needs.{needs}
-use mathlib.Core.Path.{_∙_, ap, sym}
+use mathlib.Core.Path.{ap}
 use native.Mathlib.Omega.{arith}
-use Rattle.step.specs.Answer.{answerNumber, answerPlace}
+use Rattle.step.specs.Answer.{answerPlace}
+use Rattle.host.proofs.Answers.{stepped-as}
 use Rattle.host.proofs.kp_step.Statement.{statement}
 use Rattle.host.proofs.kp_step.Tie as tie
 
@@ -16,12 +17,12 @@ returns : tie.Need-returns
 returns c =
     let the-p = c .before .before .p in
     let the-step = c .before .before .before .before .before .before .step in
-    record { number = ap answerNumber (sym (the-p .given .1)) ∙ the-step .ensures .number; new-place = ap answerPlace (sym (the-p .given .1)) ∙ the-step .ensures .place; table-left = the-step .ensures .table }
+    stepped-as _ _ _ _ _ _ (the-step .ensures) (the-p .given .1)
 
 returns-2 : tie.Need-returns-2
 returns-2 c =
     let the-step = c .before .before .before .before .before .step in
-    record { number = ap answerNumber (sym (c .before .number .given .1)) ∙ the-step .ensures .number; new-place = ap answerPlace (sym (c .before .number .given .1)) ∙ the-step .ensures .place; table-left = the-step .ensures .table }
+    stepped-as _ _ _ _ _ _ (the-step .ensures) (c .before .number .given .1)
 
 pub kp-step-spec : {M : Type 1} → statement M
 kp-step-spec =
