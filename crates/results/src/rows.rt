@@ -14,7 +14,8 @@ ghost use lib.ListN.{length};
 ghost use Rattle.messages.specs.Layout.{messageWidth};
 ghost use Rattle.record.specs.Table.{messages, mostRoom};
 ghost use Rattle.results.specs.Put.{Put};
-ghost use Rattle.results.specs.Rows.{countBy, lineAfter, mostPrinted, placeBy, replyLines, replyWidest, stepLines, stepWidest};
+ghost use Rattle.results.specs.Rows.{countBy, lineAfter, placeBy, replyLines, stepLines};
+ghost use Rattle.results.specs.Widths.{mostPrinted, replyWidest, stepWidest};
 ghost use Rattle.rules.specs.Run.{mostSteps};
 
 // A step's place, and how many messages there are after it.
