@@ -1,3 +1,4 @@
 pub mod Cut
+pub mod Lent
 pub mod Rows
 pub mod Whole

@@ -4,12 +4,17 @@ use mathlib.Core.List.{List, map}
 use Rattle.messages.specs.Layout.{messageWidth}
 use Rattle.record.specs.Lawful.{Range, kindRanges, spanOf}
 use Rattle.record.specs.Table.{flat}
+use Rattle.record.specs.declared.lawful.Span.{Span}
 
 abbrev pub positions : ℕ
 positions = 5 * messageWidth
 
-unfoldable pub leastNumbers : List ℕ
-leastNumbers = map (λ (g : Range). spanOf g .0) (flat kindRanges)
+-- a number of each position's span
+unfoldable pub ofSpans : (Span → ℕ) → List ℕ
+ofSpans side = map (λ (r : Range). side (spanOf r)) (flat kindRanges)
 
-unfoldable pub mostNumbers : List ℕ
-mostNumbers = map (λ (g : Range). spanOf g .1) (flat kindRanges)
+abbrev pub leastNumbers : List ℕ
+leastNumbers = ofSpans (λ (s : Span). s .0)
+
+abbrev pub mostNumbers : List ℕ
+mostNumbers = ofSpans (λ (s : Span). s .1)

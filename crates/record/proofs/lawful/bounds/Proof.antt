@@ -3,61 +3,32 @@ use Prim.Native.Nat.{_+_, _-_, _<_, _≤_, ℕ}
 use borrow.Author.Needs.{needs}
 use lib.ListN.{getD, length, length-set, set, take}
 use lib.Seq.{take-all, take-suc, take-suc-set}
-use mathlib.Core.List.{List, [], _++_, _∷_, map}
-use mathlib.Core.Path.{_∙_, _≡_, ap, ap₂, refl, subst, sym}
-use native.Mathlib.Nat.{le-of-eq}
+use mathlib.Core.List.{List, [], _++_, _∷_}
+use mathlib.Core.Path.{_∙_, _≡_, ap, ap₂, refl, sym}
 use native.Mathlib.Numerals.{add-one}
 use native.Mathlib.Omega.{arith}
-use Rattle.record.proofs.Rows.{number-at}
-use Rattle.record.specs.Lawful.{Range, accounts, buyers, codes, draws, gateways, kindRanges, kinds, letter, rangeLettered, sellers, spanOf, unused}
-use Rattle.record.specs.Lent.{leastNumbers, mostNumbers, positions}
-use Rattle.record.specs.Table.{flat}
+use Rattle.record.proofs.Lent.{long, of-letter}
+use Rattle.record.specs.Lent.{leastNumbers, mostNumbers, ofSpans, positions}
 use Rattle.record.specs.declared.lawful.Span.{Span}
 use Rattle.record.proofs.lawful.bounds.Statement.{statement}
 use Rattle.record.proofs.lawful.bounds.Tie as tie
 
-lettered : (g : Range) → rangeLettered (letter g) ≡ g
-lettered unused = refl
-lettered kinds = refl
-lettered buyers = refl
-lettered sellers = refl
-lettered gateways = refl
-lettered accounts = refl
-lettered draws = refl
-lettered codes = refl
-
--- the code's table is read as the rows of ranges
-rule : (i : ℕ) (s : Span) → i < positions → s ≡ spanOf (rangeLettered (getD (map letter (flat kindRanges)) i 0))
-    → (s .0 ≡ getD leastNumbers i 0) × (s .1 ≡ getD mostNumbers i 0)
-unfolding leastNumbers mostNumbers
-rule i s h e =
-    let told : s ≡ spanOf (getD (flat kindRanges) i unused) =
-    e ∙ ap spanOf (ap rangeLettered (number-at letter (flat kindRanges) unused i h) ∙ lettered (getD (flat kindRanges) i unused)) in (
-      ap (λ (z : Span). z .0) told ∙ sym (number-at (λ (g : Range). spanOf g .0) (flat kindRanges) unused i h),
-      ap (λ (z : Span). z .1) told ∙ sym (number-at (λ (g : Range). spanOf g .1) (flat kindRanges) unused i h),
-    )
-
 -- one number more is as it is to be
-turn : (l xs : List ℕ) (i x : ℕ) → take i l ≡ take i xs → i < length l → i < length xs → x ≡ getD xs i 0
-    → take (i + 1) (set l i x) ≡ take (i + 1) xs
-turn l xs i x e h k p =
+turn : (side : Span → ℕ) (l : List ℕ) (i x : ℕ) → take i l ≡ take i (ofSpans side) → i < length l → i < positions → x ≡ getD (ofSpans side) i 0
+    → take (i + 1) (set l i x) ≡ take (i + 1) (ofSpans side)
+turn side l i x e h k p =
+    let all = long side refl in
     ap (λ (n : ℕ). take n (set l i x)) (add-one i)
     ∙ take-suc-set l i x h
     ∙ ap₂ (λ (a : List ℕ) (b : ℕ). a ++ (b ∷ [])) e p
-    ∙ sym (take-suc xs i 0 k)
-    ∙ ap (λ (n : ℕ). take n xs) (sym (add-one i))
+    ∙ sym (take-suc (ofSpans side) i 0 (omega arith))
+    ∙ ap (λ (n : ℕ). take n (ofSpans side)) (sym (add-one i))
 
 -- all of them are
-over : (l xs : List ℕ) (i : ℕ) → take i l ≡ take i xs → length l ≤ i → length xs ≤ i → l ≡ xs
-over l xs i e h k = sym (take-all i l h) ∙ e ∙ take-all i xs k
-
-least-long : length leastNumbers ≡ positions
-unfolding leastNumbers
-least-long = refl
-
-most-long : length mostNumbers ≡ positions
-unfolding mostNumbers
-most-long = refl
+over : (side : Span → ℕ) (l : List ℕ) (i : ℕ) → take i l ≡ take i (ofSpans side) → length l ≡ positions → i ≡ positions → l ≡ ofSpans side
+over side l i e h k =
+    let all = long side refl in
+    sym (take-all i l (omega arith)) ∙ e ∙ take-all i (ofSpans side) (omega arith)
 
 abbrev Inv-loop : tie.InvT-loop
 Inv-loop least₀ most₀ ranges i₀ least most i =
@@ -75,20 +46,19 @@ loop-holds c =
 loop-again : tie.Need-loop-again Inv-loop μ-loop
 loop-again c =
     let the-loop = c .before .before .loop in
-    let numbers = rule (the-loop .i) (c .span-of .result) (c .before .loop-test .taken) (c .span-of .ensures) in (
+    let inside = c .before .loop-test .taken in
+    let told = c .span-of .ensures in (
       omega arith,
       simp length-set (the-loop .inv .1),
       simp length-set (the-loop .inv .2),
-      turn (the-loop .least) leastNumbers (the-loop .i) _ (the-loop .inv .3) (omega arith) (omega (arith, least-long)) (numbers .0),
-      turn (the-loop .most) mostNumbers (the-loop .i) _ (the-loop .inv .4) (omega arith) (omega (arith, most-long)) (numbers .1),
+      turn (λ (s : Span). s .0) (the-loop .least) (the-loop .i) _ (the-loop .inv .3) (omega arith) inside (of-letter _ (the-loop .i) _ inside told),
+      turn (λ (s : Span). s .1) (the-loop .most) (the-loop .i) _ (the-loop .inv .4) (omega arith) inside (of-letter _ (the-loop .i) _ inside told),
     )
 
 returns : tie.Need-returns Inv-loop μ-loop
 returns c =
-    let the-loop = c .before .loop in (
-      over (the-loop .least) leastNumbers (the-loop .i) (the-loop .inv .3) (omega arith) (omega (arith, least-long)),
-      over (the-loop .most) mostNumbers (the-loop .i) (the-loop .inv .4) (omega arith) (omega (arith, most-long)),
-    )
+    let the-loop = c .before .loop in
+    (over _ (the-loop .least) (the-loop .i) (the-loop .inv .3) (the-loop .inv .1) (omega arith), over _ (the-loop .most) (the-loop .i) (the-loop .inv .4) (the-loop .inv .2) (omega arith))
 
 pub bounds-spec : {M : Type 1} → statement M
 bounds-spec =

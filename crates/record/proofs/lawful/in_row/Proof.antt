@@ -1,57 +1,40 @@
 -- `record::lawful::in_row` meets its promise. The loop's invariant: what is asked so far and what is left of the row and of the message
 -- are together what is asked of the whole.
 use Prim.Native.Nat.{_*_, _+_, _-_, _<_, _≤_, ℕ}
-use lib.Dec.{leb}
 use lib.ListN.{drop, drop-of-length-le, getD, length}
 use mathlib.Core.Bool.{Bool, _&&_, and-assoc, and-true, true}
 use mathlib.Core.List.{List, []}
 use mathlib.Core.Path.{_∙_, _≡_, ap, ap₂, refl, subst, sym}
 use native.Mathlib.Nat.{le-of-eq}
 use native.Mathlib.Omega.{arith}
+use lib.Dec.{leb}
 use Rattle.messages.specs.Layout.{messageWidth}
 use Rattle.messages.specs.Tests.{between}
-use Rattle.record.proofs.Rows.{even, even-at, fits-from, numbered}
-use Rattle.record.specs.Lawful.{Range, fits, kindRanges, spanOf, unused, within}
-use Rattle.record.specs.Lent.{leastNumbers, mostNumbers, positions}
+use Rattle.record.proofs.Lent.{long, of-row, rows-even}
+use Rattle.record.proofs.Rows.{even-at, fits-from}
+use Rattle.record.specs.Lawful.{Range, fits, kindRanges}
+use Rattle.record.specs.Lent.{leastNumbers, mostNumbers}
 use Rattle.record.proofs.lawful.in_row.Statement.{statement}
 use Rattle.record.proofs.lawful.in_row.Tie as tie
 
 row-of : ℕ → List Range
 row-of k = getD kindRanges k []
 
-rows-even : even messageWidth kindRanges ≡ true
-rows-even = refl
-
-least-long : {l : List ℕ} → l ≡ leastNumbers → length l ≡ positions
-unfolding leastNumbers
-least-long e = ap length e
-
-most-long : {l : List ℕ} → l ≡ mostNumbers → length l ≡ positions
-unfolding mostNumbers
-most-long e = ap length e
-
--- the two numbers of the tables are the bounds of the range at i
-bounded : (k i x : ℕ) (least most : List ℕ) → least ≡ leastNumbers → most ≡ mostNumbers → k < 5 → i < messageWidth
-    → between (getD least (k * messageWidth + i) 0) x (getD most (k * messageWidth + i) 0) ≡ within (getD (row-of k) i unused) x
-unfolding row-of leastNumbers mostNumbers
-bounded k i x least most e f h l =
-    ap₂ (λ (a b : ℕ). between a x b)
-    (ap (λ (z : List ℕ). getD z (k * messageWidth + i) 0) e
-    ∙ numbered (λ (g : Range). spanOf g .0) messageWidth kindRanges unused [] rows-even k i h l (omega arith))
-    (ap (λ (z : List ℕ). getD z (k * messageWidth + i) 0) f
-    ∙ numbered (λ (g : Range). spanOf g .1) messageWidth kindRanges unused [] rows-even k i h l (omega arith))
-
 -- one position further
-turn : (k i : ℕ) (m : List ℕ) (good a b : Bool) → k < 5 → i < messageWidth → length m ≡ messageWidth
-    → (a && b) ≡ within (getD (row-of k) i unused) (getD m i 0)
-    → (((good && a) && b) && fits (drop (i + 1) (row-of k)) (drop (i + 1) m)) ≡ (good && fits (drop i (row-of k)) (drop i m))
+turn : (k i : ℕ) {least most : List ℕ} (m : List ℕ) (good : Bool) → least ≡ leastNumbers → most ≡ mostNumbers → k < 5 → length m ≡ messageWidth → i < messageWidth
+    → (((good && leb (getD least (k * messageWidth + i) 0) (getD m i 0)) && leb (getD m i 0) (getD most (k * messageWidth + i) 0))
+    && fits (drop (i + 1) (row-of k)) (drop (i + 1) m))
+    ≡ (good && fits (drop i (row-of k)) (drop i m))
 unfolding row-of
-turn k i m good a b h l e p =
+turn k i {least} {most} m good e f h w l =
+    let x : ℕ = getD m i 0 in
+    let a : ℕ = getD least (k * messageWidth + i) 0 in
+    let b : ℕ = getD most (k * messageWidth + i) 0 in
     let rest : Bool = fits (drop (i + 1) (row-of k)) (drop (i + 1) m) in
-    ap (λ (z : Bool). z && rest) (and-assoc good a b)
-    ∙ and-assoc good (a && b) rest
+    ap (λ (z : Bool). z && rest) (and-assoc good (leb a x) (leb x b))
+    ∙ and-assoc good (between a x b) rest
     ∙ ap (λ (z : Bool). good && z)
-    (ap (λ (z : Bool). z && rest) p
+    (ap₂ (λ (u v : ℕ). between u x v && rest) (of-row _ k i e h l) (of-row _ k i f h l)
     ∙ sym (fits-from (row-of k) m i (subst (λ (n : ℕ). i < n) (sym (even-at messageWidth kindRanges [] rows-even k h)) l) (omega arith)))
 
 -- past the last position nothing is left
@@ -79,8 +62,7 @@ loop-again c =
     let the-args = c .before .before .before .before .before .before .args in
     let the-pre = c .before .before .before .before .before .before .pre in (
       omega arith,
-      turn (the-args .row) (the-loop .i) (the-args .m .now) (the-loop .good) _ _ (the-pre .2) (the-loop-test .taken) (the-pre .3)
-          (bounded (the-args .row) (the-loop .i) (getD (the-args .m .now) (the-loop .i) 0) (the-args .least .now) (the-args .most .now) (the-pre .0) (the-pre .1) (the-pre .2) (the-loop-test .taken))
+      turn (the-args .row) (the-loop .i) (the-args .m .now) (the-loop .good) (the-pre .0) (the-pre .1) (the-pre .2) (the-pre .3) (the-loop-test .taken)
           ∙ the-loop .inv .1,
     )
 
@@ -104,14 +86,14 @@ in-row-spec =
     loop-holds
     (λ c. omega arith)
     (λ c. omega arith)
-    (λ c. omega (arith, least-long (c .before .before .before .pre .0)))
+    (λ c. omega (arith, long _ (c .before .before .before .pre .0)))
     (λ c. omega arith)
     (λ c. omega arith)
     (λ c. omega arith)
     (λ c. omega arith)
     (λ c. omega arith)
     (λ c. omega arith)
-    (λ c. omega (arith, most-long (c .before .before .before .before .before .before .pre .1)))
+    (λ c. omega (arith, long _ (c .before .before .before .before .before .before .pre .1)))
     (λ c. omega arith)
     (λ c. omega arith)
     loop-again
