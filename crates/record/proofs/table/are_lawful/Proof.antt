@@ -1,19 +1,18 @@
 -- `record::table::are_lawful` meets its promise.
 use Prim.Native.Nat.{_*_, _+_, _-_, _<_, _≤_, ℕ}
 use borrow.Author.Needs.{needs}
-use borrow.Author.Tests.{le-leb, lt-leb, not-false, not-true}
 use lib.ListN.{drop, drop-of-length-le, take}
 use mathlib.Core.Bool.{Bool, _&&_, true}
 use mathlib.Core.List.{List, []}
 use mathlib.Core.Path.{_∙_, _≡_, ap, refl, sym}
 use native.Mathlib.Nat.{le-of-eq}
 use native.Mathlib.Omega.{arith}
-use Rattle.messages.proofs.Chain.{goes-on, leaves, skip, stop}
+use Rattle.messages.proofs.Chain.{goes-on, leaves}
 use Rattle.record.proofs.Cut.{all-from, cut-at, length-cut}
 use Rattle.record.specs.Lawful.{lawful}
 use Rattle.messages.specs.Layout.{messageWidth}
 use Rattle.messages.specs.Parts.{Message}
-use Rattle.record.specs.Table.{messageIn, messages, roomOf}
+use Rattle.record.specs.Table.{messageIn, messages}
 use Rattle.messages.specs.Tests.{all}
 use Rattle.record.proofs.table.are_lawful.Statement.{statement}
 use Rattle.record.proofs.table.are_lawful.Tie as tie
