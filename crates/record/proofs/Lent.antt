@@ -29,11 +29,11 @@ lettered accounts = refl
 lettered draws = refl
 lettered codes = refl
 
--- the span of the letter at i
-pub of-letter : (side : Span → ℕ) (i : ℕ) (s : Span) → i < positions → s ≡ spanOf (rangeLettered (getD (map letter (flat kindRanges)) i 0))
-    → side s ≡ getD (ofSpans side) i 0
+-- the span of the letter at i is that of the range at i
+pub of-letter : (i : ℕ) (s : Span) → i < positions → s ≡ spanOf (rangeLettered (getD (map letter (flat kindRanges)) i 0))
+    → (side : Span → ℕ) → side s ≡ getD (ofSpans side) i 0
 unfolding ofSpans
-of-letter side i s h e =
+of-letter i s h e side =
     ap side (e ∙ ap spanOf (ap rangeLettered (number-at letter (flat kindRanges) unused i h) ∙ lettered (getD (flat kindRanges) i unused)))
     ∙ sym (number-at (λ (r : Range). side (spanOf r)) (flat kindRanges) unused i h)
 

@@ -47,12 +47,12 @@ loop-again : tie.Need-loop-again Inv-loop μ-loop
 loop-again c =
     let the-loop = c .before .before .loop in
     let inside = c .before .loop-test .taken in
-    let told = c .span-of .ensures in (
+    let told = of-letter (the-loop .i) (c .span-of .result) inside (c .span-of .ensures) in (
       omega arith,
       simp length-set (the-loop .inv .1),
       simp length-set (the-loop .inv .2),
-      turn (λ (s : Span). s .0) (the-loop .least) (the-loop .i) _ (the-loop .inv .3) (omega arith) inside (of-letter _ (the-loop .i) _ inside told),
-      turn (λ (s : Span). s .1) (the-loop .most) (the-loop .i) _ (the-loop .inv .4) (omega arith) inside (of-letter _ (the-loop .i) _ inside told),
+      turn (λ (s : Span). s .0) (the-loop .least) (the-loop .i) _ (the-loop .inv .3) (omega arith) inside (told _),
+      turn (λ (s : Span). s .1) (the-loop .most) (the-loop .i) _ (the-loop .inv .4) (omega arith) inside (told _),
     )
 
 returns : tie.Need-returns Inv-loop μ-loop
