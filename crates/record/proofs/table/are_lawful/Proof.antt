@@ -1,19 +1,18 @@
 -- `record::table::are_lawful` meets its promise.
 use Prim.Native.Nat.{_*_, _+_, _-_, _<_, _≤_, ℕ}
 use borrow.Author.Needs.{needs}
-use borrow.Author.Tests.{le-leb, lt-leb, not-false, not-true}
 use lib.ListN.{drop, drop-of-length-le, take}
 use mathlib.Core.Bool.{Bool, _&&_, true}
 use mathlib.Core.List.{List, []}
 use mathlib.Core.Path.{_∙_, _≡_, ap, refl, sym}
 use native.Mathlib.Nat.{le-of-eq}
 use native.Mathlib.Omega.{arith}
-use Rattle.messages.proofs.Chain.{goes-on, leaves, skip, stop}
+use Rattle.messages.proofs.Chain.{goes-on, leaves}
 use Rattle.record.proofs.Cut.{all-from, cut-at, length-cut}
 use Rattle.record.specs.Lawful.{lawful}
 use Rattle.messages.specs.Layout.{messageWidth}
 use Rattle.messages.specs.Parts.{Message}
-use Rattle.record.specs.Table.{messageIn, messages, roomOf}
+use Rattle.record.specs.Table.{messageIn, messages}
 use Rattle.messages.specs.Tests.{all}
 use Rattle.record.proofs.table.are_lawful.Statement.{statement}
 use Rattle.record.proofs.table.are_lawful.Tie as tie
@@ -31,10 +30,10 @@ over : (n : ℕ) (t : List ℕ) (i : ℕ) → i ≡ n → all lawful (drop i (me
 over n t i e = ap (all lawful) (drop-of-length-le (messages n t) {i = i} (le-of-eq (length-cut messageWidth n t ∙ sym e)))
 
 abbrev Inv-loop : tie.InvT-loop
-Inv-loop ranges t n i₀ i = (i ≤ n) × (all lawful (drop i (messages n t)) ≡ all lawful (messages n t))
+Inv-loop least most t n i₀ i = (i ≤ n) × (all lawful (drop i (messages n t)) ≡ all lawful (messages n t))
 
 abbrev μ-loop : tie.MeasureT-loop
-μ-loop ranges t n i₀ i = n - i
+μ-loop least most t n i₀ i = n - i
 
 loop-holds : tie.Need-loop-holds Inv-loop μ-loop
 loop-holds c = (search needs, refl)
@@ -44,7 +43,7 @@ returns c =
     let the-message = c .before .before .message in
     let the-loop-test = c .before .before .before .loop-test in
     let the-loop = c .before .before .before .before .loop in
-    let the-args = c .before .before .before .before .before .before .before .args in
+    let the-args = c .before .before .before .before .before .before .before .before .args in
     leaves (c .before .is-lawful-by .result) _ (turn (the-args .n) (the-args .t .now) (the-loop .i) _ (the-loop-test .taken) (the-message .ensures .0) (c .before .is-lawful-by .ensures)) (c .if1 .taken)
     ∙ the-loop .inv .1
 
@@ -53,7 +52,7 @@ loop-again c =
     let the-message = c .before .before .message in
     let the-loop-test = c .before .before .before .loop-test in
     let the-loop = c .before .before .before .before .loop in
-    let the-args = c .before .before .before .before .before .before .before .args in (
+    let the-args = c .before .before .before .before .before .before .before .before .args in (
       omega arith,
       goes-on (c .before .is-lawful-by .result) _ (turn (the-args .n) (the-args .t .now) (the-loop .i) _ (the-loop-test .taken) (the-message .ensures .0) (c .before .is-lawful-by .ensures)) (c .if1 .left)
           ∙ the-loop .inv .1,
@@ -61,7 +60,7 @@ loop-again c =
 
 returns-2 : tie.Need-returns-2 Inv-loop μ-loop
 returns-2 c =
-    let the-args = c .before .before .before .before .args in
+    let the-args = c .before .before .before .before .before .args in
     sym (over (the-args .n) (the-args .t .now) (c .before .loop .i) (omega arith)) ∙ c .before .loop .inv .1
 
 pub are-lawful-spec : {M : Type 1} → statement M
