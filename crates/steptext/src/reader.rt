@@ -1,6 +1,8 @@
 // The reader: it holds the text it was lent and a position, and hands over the next line, line feed and all.
 use crate::lines::line_at;
 ghost use mathlib.Core.Path.{_≡_};
+ghost use Prim.Native.Nat.{_+_};
+ghost use lib.ListN.{length};
 ghost use Rattle.steptext.specs.Text.{lineAt};
 
 pub struct Reader<'a> {
@@ -14,16 +16,20 @@ pub fn reader_at<'a>(text: &'a [u8], at: usize) -> Reader<'a>
     Reader { text, at }
 }
 
-// The next line; an empty one says that none is left.
-pub fn next<'a>(r: Reader<'a>) -> &'a [u8]
-    ensures { λ l. ⌜ now l ≡ lineAt (now (r .entry .text)) (r .entry .at) ⌝ }
+// Hands over the next line and goes behind it; an empty line says that none is left.
+pub fn next<'s, 'a>(r: &'s mut Reader<'a>) -> &'a [u8]
+    ensures { λ l. ⌜ (now l ≡ lineAt (now (now (r .entry) .text)) (now (r .entry) .at)) × (now (r .exit) .text ≡ now (r .entry) .text) × (now (r .exit) .at ≡ now (r .entry) .at + length (now l)) ⌝ }
 {
-    line_at(r.text, r.at)
+    let at = r.at;
+    let line = line_at(r.text, at);
+    r.at = at + line.len();
+    line
 }
 
 // The same line for a caller that keeps the position itself.
 pub fn next_line(text: &[u8], at: usize) -> &[u8]
     ensures { λ l. ⌜ now l ≡ lineAt (now (text .entry)) at ⌝ }
 {
-    next(reader_at(text, at))
+    let mut r = reader_at(text, at);
+    next(&mut r)
 }
