@@ -1,8 +1,7 @@
 // The reader: it holds the text it was lent and a position, and hands over the next line, line feed and all.
 use crate::lines::line_at;
 ghost use mathlib.Core.Path.{_≡_};
-ghost use Prim.Native.Nat.{_+_};
-ghost use lib.ListN.{length};
+ghost use Rattle.steptext.specs.Handed.{behindNext, nextOf};
 ghost use Rattle.steptext.specs.Text.{lineAt};
 
 pub struct Reader<'a> {
@@ -18,7 +17,7 @@ pub fn reader_at<'a>(text: &'a [u8], at: usize) -> Reader<'a>
 
 // Hands over the next line and goes behind it; an empty line says that none is left.
 pub fn next<'s, 'a>(r: &'s mut Reader<'a>) -> &'a [u8]
-    ensures { λ l. ⌜ (now l ≡ lineAt (now (now (r .entry) .text)) (now (r .entry) .at)) × (now (r .exit) .text ≡ now (r .entry) .text) × (now (r .exit) .at ≡ now (r .entry) .at + length (now l)) ⌝ }
+    ensures { λ l. ⌜ (now l ≡ nextOf (now (r .entry))) × (now (r .exit) ≡ behindNext (now (r .entry))) ⌝ }
 {
     let at = r.at;
     let line = line_at(r.text, at);

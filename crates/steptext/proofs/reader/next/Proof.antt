@@ -17,7 +17,7 @@ use ghost.Atoms.{Atoms, sem}
 use contract.Lifetimes.{AllOutlive}
 use contract.Monad.{Fun, fact}
 use contract.Running.{givenOf, tables}
-use types.Kit.{!, Given, _$_, _∵_, _⊛_, await, by, done, drop, feqI, fjoin, fjoin3, frame, fsplit, fsplit3, join, keep, later, move, pick, qed, raw, rewrite, some, split, suffices, use1, use2, ⋆, ‵}
+use types.Kit.{ !, Given, _$_, _∵_, _⊛_, await, by, done, drop, feqI, fjoin, fjoin3, frame, fsplit, fsplit3, join, keep, later, move, pick, qed, raw, rewrite, some, split, suffices, use1, use2, ⋆, ‵}
 use types.Part.{look-in, store-in, sub, whole}
 use types.Run.{alloc0, alloc1, and-then, assigns, bin, enter, fld, forget, free0, free1, from, hop, init, land, load, look, no-more, of-opd, params1, pass0, pass1, returns, stop}
 use types.SemTy.{Body}
@@ -52,7 +52,8 @@ use Rattle.steptext.proofs.reader.next as next
 use Rattle.steptext.proofs.reader.next.Code as code
 use Rattle.steptext.proofs.reader.next.Key.{name as #next}
 use Rattle.steptext.proofs.reader.next.Statement as stated
-use Rattle.steptext.specs.Text.{lineAt}
+use Rattle.steptext.specs.Handed.{nextOf}
+use Rattle.steptext.specs.Text.{Text}
 use Rattle.steptext.specs.declared.reader.Reader.{Reader}
 
 -- the reader behind the `&mut`, whose text is lent for the second of the two lifetimes
@@ -76,17 +77,14 @@ module _ {M : Type 1} (𝓤 : URA M) (H : Heap 𝓤) (A : Atoms 𝓤) (W : Given
   abbrev at : Vals next.signature (κ, (κ′, tt))
   at = (vptr b o ∷ [], tt)
 
-  abbrev found : List ℕ
-  found = lineAt (now (d .text)) (d .at)
-
   -- the reader behind a line
   abbrev past : RefT (List ℕ) → Reader
   past l = record { text = d .text; at = d .at + length (now l) }
 
-  past-fits : Is (R α) d (T′.lowered d ∷ []) → (l : RefT (List ℕ)) → now l ≡ found → d .at + length (now l) < 2 ^ 64
+  past-fits : Is (R α) d (T′.lowered d ∷ []) → (l : RefT (List ℕ)) → now l ≡ nextOf d → d .at + length (now l) < 2 ^ 64
   past-fits was l e = behind-fits (now (d .text)) (d .at) (now l) e (text-fits α d was) (at-fits α d was)
 
-  moves : Is (R α) d (T′.lowered d ∷ []) → (l : RefT (List ℕ)) → now l ≡ found → ent 𝓤 (sem 𝓤 H A (Own α d)) (sem 𝓤 H A (Own α (past l)))
+  moves : Is (R α) d (T′.lowered d ∷ []) → (l : RefT (List ℕ)) → now l ≡ nextOf d → ent 𝓤 (sem 𝓤 H A (Own α d)) (sem 𝓤 H A (Own α (past l)))
   moves was l e =
       qed W (‵ (Own α d) ∷ []) ∵ owned ! usize (Is usize) (uint-makes 𝓤 H A W w64) (d .at + length (now l)) _ (refl, past-fits was l e) $ move ! (1 ∷ 0 ∷ []) $
       by ! (own-put 𝓤 H A W (D α) (L α) 1 (fields α d) (d .at + length (now l)) (T′.lowered d))
@@ -107,13 +105,13 @@ module _ {M : Type 1} (𝓤 : URA M) (H : Heap 𝓤) (A : Atoms 𝓤) (W : Given
       nothing ! $ owned ! usize (Is usize) (uint-makes 𝓤 H A W w64) (d .at) _ (refl, fits) $ fjoin ! $ move ! (1 ∷ 0 ∷ []) $ fjoin ! $
       move ! (2 ∷ 0 ∷ []) $ join ! $ nothing ! $ move ! (1 ∷ 0 ∷ []) $ join ! $ frame ! $ done !
 
-  said : (l : RefT (List ℕ)) → ent 𝓤 (ensured 𝓤 H A line.ended (line.clauses 𝓤 H A mem run) (κ′, tt) (d .text, (d .at, tt)) tt l) (fact 𝓤 (now l ≡ found))
-  said l = exE 𝓤 _ (λ ws. snd∗ 𝓤 (sem 𝓤 H A (lasts line.ended (κ′, tt) (d .text, (d .at, tt)) ws)) (fact 𝓤 (now l ≡ found)))
+  said : (l : RefT (List ℕ)) → ent 𝓤 (ensured 𝓤 H A line.ended (line.clauses 𝓤 H A mem run) (κ′, tt) (d .text, (d .at, tt)) tt l) (fact 𝓤 (now l ≡ nextOf d))
+  said l = exE 𝓤 _ (λ ws. snd∗ 𝓤 (sem 𝓤 H A (lasts line.ended (κ′, tt) (d .text, (d .at, tt)) ws)) (fact 𝓤 (now l ≡ nextOf d)))
 
-  exits : (l : RefT (List ℕ)) → now l ≡ found → ent 𝓤 (⋆ 𝓤 H A (‵ (fobs γ (R α .coded .code (past l))) ∷ ‵ (fbor κ (Body (in-memory (R α)) b o γ)) ∷ ‵ (flft κ q) ∷ ‵ (Bytes κ′ .own l (slice l ∷ [])) ∷ (‵ (flft κ′ q′) ⊛ ‵ ftrue) ∷ [])) (Post (slice l))
+  exits : (l : RefT (List ℕ)) → now l ≡ nextOf d → ent 𝓤 (⋆ 𝓤 H A (‵ (fobs γ (R α .coded .code (past l))) ∷ ‵ (fbor κ (Body (in-memory (R α)) b o γ)) ∷ ‵ (flft κ q) ∷ ‵ (Bytes κ′ .own l (slice l ∷ [])) ∷ (‵ (flft κ′ q′) ⊛ ‵ ftrue) ∷ [])) (Post (slice l))
   exits l e =
       qed W (‵ (fobs γ (R α .coded .code (past l))) ∷ ‵ (fbor κ (Body (in-memory (R α)) b o γ)) ∷ ‵ (flft κ q) ∷ ‵ (Bytes κ′ .own l (slice l ∷ [])) ∷ (‵ (flft κ′ q′) ⊛ ‵ ftrue) ∷ []) ∵
-      suffices ! _ (ends-at 𝓤 H A next.ended stayed (next.clauses 𝓤 H A mem run) W (((κ, (κ′, tt)), (q, (q′, tt)), bounds, lent, at), tt) (slice l) l (past l, tt) (tt, tt)) $ says ! (e, refl, refl) $
+      suffices ! _ (ends-at 𝓤 H A next.ended stayed (next.clauses 𝓤 H A mem run) W (((κ, (κ′, tt)), (q, (q′, tt)), bounds, lent, at), tt) (slice l) l (past l, tt) (tt, tt)) $ says ! (e, ap (λ (z : Text). record { text = d .text; at = d .at + length z }) e) $
       move ! (2 ∷ 4 ∷ []) $ join ! $ frame ! $ feqI ! (List Val) (vptr b o ∷ []) (vptr b o ∷ []) refl $ fjoin3 ! $ nothing ! $ move ! (1 ∷ 0 ∷ []) $ fjoin ! $ done !
 
   module _ (C : Calls 𝓤 H) (Λ : Loops 𝓤 H) (fm : FmC 𝓤 H (W .laws) C) (known : Triple 𝓤 (C #line-at) (LineAt 𝓤 H A mem run)) where
@@ -131,7 +129,7 @@ module _ {M : Type 1} (𝓤 : URA M) (H : Heap 𝓤) (A : Atoms 𝓤) (W : Given
         move ! (5 ∷ 1 ∷ []) $ use2 W (raw (LineAt 𝓤 H A mem run .pre to) ⊛ ‵ (Own α d)) (asked (at-fits α d was)) $ split ! $
         calls-at ! fm (LineAt 𝓤 H A mem run) known to (and-then ! (load ! (from ! (stop !)) (look ! 11 refl)) (and-then ! (load ! (from ! (stop !)) (look ! 15 refl)) (no-more !))) (λ u.
         use1 W (later (some (λ (l : RefT (List ℕ)). ((‵ (flft κ′ q′) ⊛ ‵ ftrue) ⊛ ‵ (Bytes κ′ .own l (u ∷ []))) ⊛ raw (ensured 𝓤 H A line.ended (line.clauses 𝓤 H A mem run) (κ′, tt) (d .text, (d .at, tt)) tt l)))) (id⊢ 𝓤 _) $ await ! tt $ pick ! (λ l.
-        split ! $ move ! (1 ∷ []) $ use1 W (raw (fact 𝓤 (now l ≡ found))) (said l) $ heard ! (now l ≡ found) (λ e. split ! $ move ! (1 ∷ []) $
+        split ! $ move ! (1 ∷ []) $ use1 W (raw (fact 𝓤 (now l ≡ nextOf d))) (said l) $ heard ! (now l ≡ nextOf d) (λ e. split ! $ move ! (1 ∷ []) $
         -- at hand: the line; the text's token; what the reader owns; the reader in memory; the rest as before
         peeks ! (Bytes κ′) (Is (Bytes κ′)) (shows 𝓤 H A (Bytes κ′)) l (u ∷ []) (λ is.
         let long = is .0 .1 .0 in
