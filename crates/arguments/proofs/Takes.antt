@@ -7,12 +7,14 @@ use Prim.Native.Nat.{ℕ, suc, _+_, _*_, _-_, _≤_, _<_}
 use native.Mathlib.Nat.{add-comm, le-of-eq}
 use native.Mathlib.Numerals.{add-one}
 use native.Mathlib.Omega.{arith}
-use lib.Dec.{eqb}
+use borrow.Author.Tests.{leb-true}
+use lib.Dec.{eqb, leb}
 use lib.ListN.{List·getD-map, drop, drop-of-length-le, getD, length, length-drop}
 use lib.Seq.{drop-cons, getD-drop}
+use Rattle.messages.proofs.Chain.{left-of, right-of}
 use Rattle.record.specs.Table.{flat}
 use Rattle.record.proofs.Rows.{even-at, numbered}
-use Rattle.rules.specs.Codes.{Argument, Row, letter, row, rowOf, rows, starts, unused}
+use Rattle.rules.specs.Codes.{Argument, Row, known, letter, row, rowOf, rows, starts, unused}
 use Rattle.rules.specs.Forged.{given, gives}
 use Rattle.rules.specs.Step.{argumentsOf, codeOf}
 use Rattle.arguments.specs.Given.{foundIn}
@@ -37,6 +39,15 @@ letters code i l k w =
 
 pub six : (code : ℕ) → 1 ≤ code → code ≤ 37 → length (rowOf code .takes) ≡ 6
 six code l k = sym (ap length (row-at code)) ∙ even-at 6 (map takesOf rows) (takesOf none) refl (code - 1) (omega arith)
+
+-- a step of seven numbers with a known code
+pub known-step : {s : List ℕ} → length s ≡ 7 → known (codeOf s) ≡ true → Known s
+known-step {s} l e =
+    record {
+      seven = l;
+      low = leb-true _ _ (left-of (leb 1 (codeOf s)) _ e);
+      high = leb-true _ _ (right-of (leb 1 (codeOf s)) (leb (codeOf s) 37) e);
+    }
 
 -- the arguments of a step are its numbers after the code
 pub argument-at : (s : List ℕ) (i : ℕ) → getD (argumentsOf s) i 0 ≡ getD s (i + 1) 0

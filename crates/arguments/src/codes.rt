@@ -2,10 +2,10 @@
 ghost use mathlib.Core.Path.{_≡_};
 ghost use Prim.Native.Nat.{_<_, _≤_};
 ghost use lib.ListN.{getD};
-ghost use Rattle.rules.specs.Codes.{letter, rowOf, unused};
+ghost use Rattle.rules.specs.Codes.{known, letter, rowOf, unused};
 
 // Codes are 1 to 37, and a step has six arguments after its code.
-pub const MOST_CODE: u16 = 37;
+const MOST_CODE: u16 = 37;
 
 pub const MOST_ARGUMENTS: usize = 6;
 
@@ -51,6 +51,16 @@ Scg---\
 Scm---\
 SBch--\
 Scar--";
+
+// Refusal 2.
+pub fn is_known(code: u16) -> bool
+    ensures { λ r. ⌜ r ≡ known code ⌝ }
+{
+    if code < 1 {
+        return false;
+    }
+    code <= MOST_CODE
+}
 
 // What argument i of a code is, i from 0.
 pub fn letter_at(code: usize, i: usize) -> u8

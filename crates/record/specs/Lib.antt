@@ -1,2 +1,3 @@
 pub mod Lawful
+pub mod Lent
 pub mod Table

@@ -41,6 +41,19 @@ module _ (answers room : ℕ) (R : Record) where
   unfolding judgeRow
   row-passes coded y xs o = passes refused (accepted (added R (y .takes) xs answers (y .deed))) (gates room R coded y xs) o
 
+  -- no step is refused with 0
+  pub never-zero : (s : Step) → judge answers room R s ≡ refused 0 → ⊥
+  unfolding judge judgeRow
+  never-zero s e =
+      let y = rowOf (codeOf s) in
+      let xs = argumentsOf s in
+      let h =
+      all-open refused (accepted (added R (y .takes) xs answers (y .deed))) (λ (o : Outcome). o ≡ refused 0)
+      (λ k l q. let z : k ≡ 0 = cc in omega (arith, l .0)) (gates room R (known (codeOf s)) y xs) refl e in
+      let w = h .1 in
+      let z : _≡_ {A = ℕ} 0 1 = cc in
+      omega arith
+
   module _ (s : Step) (x : Message) where
     pub is-accepted : judge answers room R s ≡ accepted x → Accepted answers room R s x
     unfolding judge

@@ -1,16 +1,15 @@
 -- The theorems hold of whatever a run leaves in the table that it was lent: cut into messages, it is the record that the steps lead to.
 use mathlib.Core.Bool.{true, _&&_}
-use mathlib.Core.List.{List, [], _∷_, _++_, append-assoc, List·Memᴰ·head, List·Memᴰ·tail}
+use mathlib.Core.List.{List, [], _∷_, _++_}
 use mathlib.Core.Path.{_≡_, _∙_, refl, sym, ap, ap₂, subst, subst₂}
-use Prim.Native.Nat.{ℕ, zero, suc, _+_, _*_, _/_, _%_, _≤_}
+use Prim.Native.Nat.{ℕ, suc, _+_, _*_, _/_, _%_, _≤_}
 use borrow.Author.Tests.{eqb-true}
 use lib.Dec.{eqb, leb}
 use lib.ListN.{List·getD-append, drop, getD, length, length-append, length-drop, take}
-use lib.Seq.{drop-append-le, drop-at, take-append-le, take-at}
-use native.Mathlib.Nat.{suc-add, suc-mul, zero-add, zero-mul}
 use native.Mathlib.Omega.{arith}
 use Rattle.messages.proofs.Chain.{left-of}
 use Rattle.record.proofs.Cut.{cut-append, length-cut}
+use Rattle.record.proofs.Flat.{AllLong, cut-flat, flat-length}
 use Rattle.messages.specs.Layout.{messageWidth}
 use Rattle.messages.specs.Parts.{Message}
 use Rattle.record.specs.Table.{Record, cut, flat, messages, mostRoom, roomOf, whole}
@@ -22,7 +21,7 @@ use Rattle.rules.proofs.Reports.{never-22, reports}
 use Rattle.rules.proofs.Agreement.{agreement}
 use Rattle.rules.proofs.Session.{Placed, placed-new, sessions}
 use Rattle.rules.proofs.Vouched.{reached-sound}
-use Rattle.rules.specs.Agreed.{HouseReplyAt, Reported, _∈_}
+use Rattle.rules.specs.Agreed.{HouseReplyAt, Reported}
 use Rattle.rules.specs.Promised.{Kept, sessionAfter}
 use Rattle.rules.specs.Reached.{HoldsReached, Reached}
 use Rattle.rules.specs.Report.{houseReply, replyMark, report}
@@ -30,28 +29,6 @@ use Rattle.rules.specs.Run.{Ran, over, played, run, runGates, runPlayed,
 use Rattle.rules.specs.Session.{R2, R3, R4, R5, R6, Setting, place5, sessionReply, sessionSteps, step1, step2, step3, step4, step5}
 use Rattle.rules.specs.Step.{Step, judge, numberOf, recordAfter}
 use Rattle.rules.specs.Theorems.{RunKeeps, RunPrefixes}
-
--- messages written one after the other and cut again
-abbrev FullLength : Record → Type 0
-FullLength R = (w : Message) → w ∈ R → length w ≡ messageWidth
-
-flat-length : (R : Record) → FullLength R → length (flat R) ≡ length R * messageWidth
-flat-length [] h = refl
-flat-length (x ∷ R) h =
-    length-append x (flat R)
-    ∙ ap₂ _+_ (h x (List·Memᴰ·head refl)) (flat-length R (λ w m. h w (List·Memᴰ·tail m)))
-    ∙ omega (arith, suc-mul (length R) messageWidth)
-
-cut-flat : (R : Record) (rest : List ℕ) → FullLength R → cut messageWidth (length R) (flat R ++ rest) ≡ R
-cut-flat [] rest h = refl
-cut-flat (x ∷ R) rest h =
-    ap₂ _∷_ (ap (take messageWidth) (append-assoc x (flat R) rest) ∙ take-at x (flat R ++ rest) messageWidth l)
-    (ap (λ (t : List ℕ). cut messageWidth (length R) t)
-    (ap (drop messageWidth) (append-assoc x (flat R) rest) ∙ drop-at x (flat R ++ rest) messageWidth l)
-    ∙ cut-flat R rest (λ w m. h w (List·Memᴰ·tail m)))
-  where
-    l : length x ≡ messageWidth
-    l = h x (List·Memᴰ·head refl)
 
 steps-append : (xs ys : List ℕ) → wholeSteps xs ≡ true → stepsOf (xs ++ ys) ≡ stepsOf xs ++ stepsOf ys
 steps-append xs ys e =
@@ -61,7 +38,7 @@ steps-append xs ys e =
 
 -- the verdict of a step is its number against what the steps before it left
 module _ (answers room : ℕ) where
-  verdicts-length : (R : Record) (ss : List Step) → length (verdicts answers room R ss) ≡ length ss
+  pub verdicts-length : (R : Record) (ss : List Step) → length (verdicts answers room R ss) ≡ length ss
   unfolding verdicts
   verdicts-length R [] = refl
   verdicts-length R (s ∷ ss) = ap suc (verdicts-length (recordAfter R (judge answers room R s)) ss)
@@ -105,14 +82,14 @@ module _ (answers : ℕ) (t xs bytes : List ℕ) where
   reached : Reached answers (roomOf t) R
   reached = record { steps = stepsOf xs; left = refl }
 
-  full : FullLength R
+  full : AllLong messageWidth R
   full w m = let s = reached-sound answers (roomOf t) R reached w m in full-length (s .kind) w (s .laid)
 
   flat-room : length (flat R) ≤ length t
-  flat-room = omega (arith, flat-length R full, reached-room answers (roomOf t) R reached)
+  flat-room = omega (arith, flat-length messageWidth R full, reached-room answers (roomOf t) R reached)
 
-  left-is : messages (length R) (over (flat R) t) ≡ R
-  left-is = cut-flat R (drop (length (flat R)) t) full
+  pub left-is : messages (length R) (over (flat R) t) ≡ R
+  left-is = cut-flat messageWidth R (drop (length (flat R)) t) full
 
   same-length : length (over (flat R) t) ≡ length t
   same-length = length-append (flat R) (drop (length (flat R)) t) ∙ omega (arith, flat-room, length-drop (length (flat R)) t)

@@ -9,6 +9,7 @@ pub mod Promised
 pub mod Reached
 pub mod Report
 pub mod Run
+pub mod Said
 pub mod Session
 pub mod Step
 pub mod Theorems

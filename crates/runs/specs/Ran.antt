@@ -1,7 +1,9 @@
 -- What a run answers: document 01's number and n for each case; and what the promise of a run says of answer, table and verdict bytes.
+use mathlib.Core.Bool.{Bool, false, not, true}
 use mathlib.Core.List.{List, []}
 use mathlib.Core.Path.{_≡_}
 use Prim.Native.Nat.{ℕ, _+_, _≤_}
+use lib.Dec.{eqb}
 use lib.ListN.{length}
 use Rattle.record.specs.Table.{Record, flat, mostRoom, roomOf}
 use Rattle.rules.specs.Run.{Ran as RanOf, over, played, stepsOf, verdicts}
@@ -17,10 +19,16 @@ abbrev pub ranCount : Ran → ℕ
 ranCount (Messages n) = n
 ranCount (Refused k) = 0
 
+abbrev pub isRefused : Ran → Bool
+isRefused (Messages n) = false
+isRefused (Refused k) = true
+
 -- as the definition says
 pub record Leaves (o : RanOf) (r : Ran) (table bytes : List ℕ) : Type 0 where
   pub number : ranNumber r ≡ o .number
   pub n : ranCount r ≡ o .n
+  -- an empty record is told from a refusal
+  pub told-apart : isRefused r ≡ not (eqb (o .number) 0)
   pub table-left : table ≡ o .table
   pub bytes-left : bytes ≡ o .verdictBytes
   -- so n fits 16 bits

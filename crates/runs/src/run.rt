@@ -51,7 +51,7 @@ fn play_one(t: &mut [u16], n: usize, answers: u16, s: &[u16]) -> After
 }
 
 // The steps played from an empty record, with a verdict byte for each.
-fn play(t: &mut [u16], answers: u16, steps: &[u16], verdicts: &mut [u8]) -> usize
+pub fn play(t: &mut [u16], answers: u16, steps: &[u16], verdicts: &mut [u8]) -> usize
     requires { ⌜ (whole (now t) ≡ true) × (stepCount (now steps) ≤ length (now verdicts)) ⌝ }
     ensures { λ r. ⌜ Plays answers (now (t .entry)) (now (steps .entry)) (now (verdicts .entry)) r (now (t .exit)) (now (verdicts .exit)) ⌝ }
 {

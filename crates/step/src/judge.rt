@@ -1,6 +1,6 @@
 // One step: judged against a record that is known to be lawful, as in a run, and against any table, where refusal 1 comes first.
 use crate::drafts::drafted;
-use arguments::codes::MOST_CODE;
+use arguments::codes::is_known;
 use arguments::faults::FINE;
 use arguments::faults::first_fault;
 use messages::parts::Place;
@@ -26,11 +26,7 @@ pub fn judge_step(t: &mut [u16], n: usize, answers: u16, s: &[u16]) -> Answer
     requires { ⌜ (whole (now t) ≡ true) × (n ≤ roomOf (now t)) × (length (now s) ≡ 7) ⌝ }
     ensures { λ r. ⌜ Answered n (now (t .entry)) (judgeOf answers (roomOf (now (t .entry))) (messages n (now (t .entry))) (now (s .entry))) r (now (t .exit)) ⌝ }
 {
-    let code = s[0];
-    if code < 1 {
-        return Answer::Refused(2);
-    }
-    if MOST_CODE < code {
+    if !is_known(s[0]) {
         return Answer::Refused(2);
     }
     let found = first_fault(t, n, s);

@@ -2,10 +2,11 @@
 use mathlib.Core.Bool.{Bool, true, false, cond}
 use mathlib.Core.List.{List, [], _∷_, _++_}
 use mathlib.Core.Path.{_≡_, _∙_, refl, sym, ap, ap₂, subst}
-use Prim.Native.Nat.{ℕ, zero, suc, _+_, _-_, _≤_, _<_}
+use Prim.Native.Nat.{ℕ, zero, suc, _+_, _-_, _^_, _≤_, _<_}
+use borrow.Author.Tests.{leb-false, leb-true}
 use native.Mathlib.Numerals.{add-one}
 use native.Mathlib.Omega.{arith}
-use lib.Dec.{eqb}
+use lib.Dec.{eqb, leb}
 use lib.ListN.{drop, drop-of-length-le, getD, length, length-drop, length-take, take}
 use lib.Seq.{drop-drop, drop-length, take-all, take-nil}
 use Rattle.steptext.specs.Text.{Text, before, lineAt, lineFeed, lines, onto, parts, tab}
@@ -87,6 +88,15 @@ line-within t at h =
     let e = ap length (line-here t at h) ∙ length-take (suc k) (drop at t) in
     let d = length-drop at t in
     (omega arith, omega arith)
+
+-- behind the line that starts at a position of a text stands a position again
+by-where : (b : Bool) (t : Text) (at : ℕ) → leb (length t) at ≡ b → length t < 2 ^ 64 → at < 2 ^ 64 → at + length (lineAt t at) < 2 ^ 64
+by-where true t at e h k = let n = ap length (line-past t at (leb-true (length t) at e)) in omega arith
+by-where false t at e h k = let w = line-within t at (leb-false (length t) at e) .1 in omega arith
+
+pub behind-fits : (t : Text) (at : ℕ) (l : Text) → l ≡ lineAt t at → length t < 2 ^ 64 → at < 2 ^ 64 → at + length l < 2 ^ 64
+behind-fits t at l e h k =
+    subst (λ (z : Text). at + length z < 2 ^ 64) (sym e) (by-where (leb (length t) at) t at refl h k)
 
 -- as parts of the text, for the three ways in which the code hands a line over
 module _ (t : Text) (at : ℕ) where

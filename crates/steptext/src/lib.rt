@@ -3,4 +3,5 @@ pub mod bytes;
 pub mod lines;
 pub mod numbers;
 pub mod read;
+pub mod reader;
 pub mod says;

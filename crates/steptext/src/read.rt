@@ -1,6 +1,6 @@
 // A text read into a step table. A refused text leaves the table as it was found: the steps are gathered beside it first.
-use crate::lines::line_at;
 use crate::numbers::Number;
+use crate::reader::next_line;
 use crate::says::STEP_WIDTH;
 use crate::says::answers_said;
 use crate::says::step_said;
@@ -33,7 +33,7 @@ fn gather(text: &[u8], from: usize, answers: u16, t: &mut [u16]) -> TextRead
     let mut at = from;
     let mut count = 0;
     while at < text.len() {
-        let line = line_at(text, at);
+        let line = next_line(text, at);
         let said = step_said(line);
         if !said.readable {
             return TextRead::Unreadable(count + 2);
@@ -69,7 +69,7 @@ pub fn read_text(text: &[u8], steps: &mut [u16]) -> TextRead
     if steps.len() < MOST_STEPS * STEP_WIDTH {
         return TextRead::TooLong;
     }
-    let first = line_at(text, 0);
+    let first = next_line(text, 0);
     let said = answers_said(first);
     let Number::Is(answers) = said else {
         return TextRead::Unreadable(1);

@@ -37,11 +37,11 @@ same-length c =
 returns : tie.Need-returns Inv-loop μ-loop
 returns c =
     let the-step-said = c .before .before .step-said in
-    let the-line-at = c .before .before .before .line-at in
+    let the-next-line = c .before .before .before .next-line in
     let the-loop-test = c .before .before .before .before .loop-test in
     let the-loop = c .before .before .before .before .before .loop in
     let the-args = c .before .before .before .before .before .before .before .before .args in
-    refused-line (the-args .text .now) (the-args .from) (the-args .answers) (the-args .t .now) (the-loop .t) (the-loop .at) (the-loop .count) (the-loop .inv) (the-loop-test .taken) _ (the-line-at .ensures) (sym (readable-is _ _ (the-step-said .ensures)) ∙ not-true _ (c .if1 .taken))
+    refused-line (the-args .text .now) (the-args .from) (the-args .answers) (the-args .t .now) (the-loop .t) (the-loop .at) (the-loop .count) (the-loop .inv) (the-loop-test .taken) _ (the-next-line .ensures) (sym (readable-is _ _ (the-step-said .ensures)) ∙ not-true _ (c .if1 .taken))
 
 same-length-2 : tie.Need-same-length-2 Inv-loop μ-loop
 same-length-2 c =
@@ -51,11 +51,11 @@ same-length-2 c =
 returns-2 : tie.Need-returns-2 Inv-loop μ-loop
 returns-2 c =
     let the-step-said = c .before .before .before .step-said in
-    let the-line-at = c .before .before .before .before .line-at in
+    let the-next-line = c .before .before .before .before .next-line in
     let the-loop-test = c .before .before .before .before .before .loop-test in
     let the-loop = c .before .before .before .before .before .before .loop in
     let the-args = c .before .before .before .before .before .before .before .before .before .args in
-    refused-text (the-args .text .now) (the-args .from) (the-args .answers) (the-args .t .now) (the-loop .t) (the-loop .at) (the-loop .count) (the-loop .inv) (the-loop-test .taken) _ (the-line-at .ensures) (sym (readable-is _ _ (the-step-said .ensures)) ∙ not-false _ (c .before .if1 .left)) (c .if2 .taken)
+    refused-text (the-args .text .now) (the-args .from) (the-args .answers) (the-args .t .now) (the-loop .t) (the-loop .at) (the-loop .count) (the-loop .inv) (the-loop-test .taken) _ (the-next-line .ensures) (sym (readable-is _ _ (the-step-said .ensures)) ∙ not-false _ (c .before .if1 .left)) (c .if2 .taken)
 
 mul-copy-into : tie.Need-mul-copy-into Inv-loop μ-loop
 mul-copy-into c =
@@ -81,22 +81,22 @@ add-count c =
 
 add-at : tie.Need-add-at Inv-loop μ-loop
 add-at c =
-    let the-line-at = c .before .before .before .before .before .before .before .before .before .before .line-at in
+    let the-next-line = c .before .before .before .before .before .before .before .before .before .before .next-line in
     let the-loop-test = c .before .before .before .before .before .before .before .before .before .before .before .loop-test in
     let the-loop = c .before .before .before .before .before .before .before .before .before .before .before .before .loop in
     let the-args = c .before .before .before .before .before .before .before .before .before .before .before .before .before .before .before .args in
     let w = line-within (the-args .text .now) (the-loop .at) (the-loop-test .taken) in
-    let e = ap length (the-line-at .ensures) in
+    let e = ap length (the-next-line .ensures) in
     omega arith
 
 loop-less : tie.Need-loop-less Inv-loop μ-loop
 loop-less c =
-    let the-line-at = c .before .before .before .before .before .before .before .before .before .before .line-at in
+    let the-next-line = c .before .before .before .before .before .before .before .before .before .before .next-line in
     let the-loop-test = c .before .before .before .before .before .before .before .before .before .before .before .loop-test in
     let the-loop = c .before .before .before .before .before .before .before .before .before .before .before .before .loop in
     let the-args = c .before .before .before .before .before .before .before .before .before .before .before .before .before .before .before .args in
     let w = line-within (the-args .text .now) (the-loop .at) (the-loop-test .taken) in
-    let e = ap length (the-line-at .ensures) in
+    let e = ap length (the-next-line .ensures) in
     omega arith
 
 loop-again : tie.Need-loop-again Inv-loop μ-loop
@@ -105,13 +105,13 @@ loop-again c =
     let the-if2 = c .before .before .before .before .before .before .if2 in
     let the-if1 = c .before .before .before .before .before .before .before .if1 in
     let the-step-said = c .before .before .before .before .before .before .before .before .before .step-said in
-    let the-line-at = c .before .before .before .before .before .before .before .before .before .before .line-at in
+    let the-next-line = c .before .before .before .before .before .before .before .before .before .before .next-line in
     let the-loop-test = c .before .before .before .before .before .before .before .before .before .before .before .loop-test in
     let the-loop = c .before .before .before .before .before .before .before .before .before .before .before .before .loop in
     let the-args = c .before .before .before .before .before .before .before .before .before .before .before .before .before .before .before .args in
     let the-pre = c .before .before .before .before .before .before .before .before .before .before .before .before .before .before .before .pre in
     let numbered = numbers-are _ _ (the-step-said .ensures) (not-false _ (the-if1 .left)) in
-    turn (the-args .text .now) (the-args .from) (the-args .answers) (the-args .t .now) (the-loop .t) (the-loop .at) (the-loop .count) (the-loop .inv) (the-loop-test .taken) (the-line-at .result .now) (the-line-at .ensures) (sym (readable-is _ _ (the-step-said .ensures)) ∙ not-false _ (the-if1 .left)) (the-if2 .left) (the-pre .1) (the-copy-into .last .0) (the-copy-into .ensures ∙ ap (withNumbers (the-loop .count * stepWidth) (the-loop .t)) numbered) (the-copy-into .kept .0)
+    turn (the-args .text .now) (the-args .from) (the-args .answers) (the-args .t .now) (the-loop .t) (the-loop .at) (the-loop .count) (the-loop .inv) (the-loop-test .taken) (the-next-line .result .now) (the-next-line .ensures) (sym (readable-is _ _ (the-step-said .ensures)) ∙ not-false _ (the-if1 .left)) (the-if2 .left) (the-pre .1) (the-copy-into .last .0) (the-copy-into .ensures ∙ ap (withNumbers (the-loop .count * stepWidth) (the-loop .t)) numbered) (the-copy-into .kept .0)
 
 same-length-3 : tie.Need-same-length-3 Inv-loop μ-loop
 same-length-3 c = c .before .loop .inv .long

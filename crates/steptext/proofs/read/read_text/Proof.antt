@@ -28,17 +28,17 @@ returns-2 c =
 returns-3 : tie.Need-returns-3
 returns-3 c =
     let the-answers-said = c .before .before .answers-said in
-    let the-line-at = c .before .before .before .line-at in
+    let the-next-line = c .before .before .before .next-line in
     let the-if2 = c .before .before .before .before .if2 in
     let the-if1 = c .before .before .before .before .before .if1 in
     let the-args = c .before .before .before .before .before .before .before .before .args in
-    unread-first (the-args .text .now) (the-args .steps .now) (the-if1 .left) (the-if2 .left) (sym (c .enum-told .given .1) ∙ the-answers-said .ensures ∙ ap answersSaid (the-line-at .ensures))
+    unread-first (the-args .text .now) (the-args .steps .now) (the-if1 .left) (the-if2 .left) (sym (c .enum-told .given .1) ∙ the-answers-said .ensures ∙ ap answersSaid (the-next-line .ensures))
 
 gather-requires : tie.Need-gather-requires
 gather-requires c κs =
-    let the-line-at = c .before .before .before .before .before .line-at in
+    let the-next-line = c .before .before .before .before .before .next-line in
     let the-args = c .before .before .before .before .before .before .before .before .before .before .args in
-    (let w = first-within (the-args .text .now) in let e = ap length (the-line-at .ensures) in omega arith, omega arith)
+    (let w = first-within (the-args .text .now) in let e = ap length (the-next-line .ensures) in omega arith, omega arith)
 
 returns-4 : tie.Need-returns-4
 returns-4 c =
@@ -47,11 +47,11 @@ returns-4 c =
     let the-gather = c .before .before .before .before .before .before .before .before .gather in
     let the-said = c .before .before .before .before .before .before .before .before .before .before .before .said in
     let the-answers-said = c .before .before .before .before .before .before .before .before .before .before .before .before .before .answers-said in
-    let the-line-at = c .before .before .before .before .before .before .before .before .before .before .before .before .before .before .line-at in
+    let the-next-line = c .before .before .before .before .before .before .before .before .before .before .before .before .before .before .next-line in
     let the-if2 = c .before .before .before .before .before .before .before .before .before .before .before .before .before .before .before .if2 in
     let the-if1 = c .before .before .before .before .before .before .before .before .before .before .before .before .before .before .before .before .if1 in
     let the-args = c .before .before .before .before .before .before .before .before .before .before .before .before .before .before .before .before .before .before .before .args in
-    all-gathered (the-args .text .now) (the-args .steps .now) (the-if1 .left) (the-if2 .left) (the-said .given .0 .0) (sym (the-said .given .1) ∙ the-answers-said .ensures ∙ ap answersSaid (the-line-at .ensures)) (the-gather .result) _ (the-gather .last .1 .1 .1 .0) _ (subst (λ (z : List ℕ). Gathers (readSteps (the-said .given .0 .0) [] (lines (drop (length z) (the-args .text .now)))) _ (the-gather .result) (the-gather .last .1 .1 .1 .0)) (the-line-at .ensures) (the-gather .ensures)) (the-copy-into .ensures ∙ ap (λ (k : ℕ). withNumbers 0 (the-args .steps .now) (take (k * stepWidth - 0) (the-gather .last .1 .1 .1 .0))) (the-count .ensures))
+    all-gathered (the-args .text .now) (the-args .steps .now) (the-if1 .left) (the-if2 .left) (the-said .given .0 .0) (sym (the-said .given .1) ∙ the-answers-said .ensures ∙ ap answersSaid (the-next-line .ensures)) (the-gather .result) _ (the-gather .last .1 .1 .1 .0) _ (subst (λ (z : List ℕ). Gathers (readSteps (the-said .given .0 .0) [] (lines (drop (length z) (the-args .text .now)))) _ (the-gather .result) (the-gather .last .1 .1 .1 .0)) (the-next-line .ensures) (the-gather .ensures)) (the-copy-into .ensures ∙ ap (λ (k : ℕ). withNumbers 0 (the-args .steps .now) (take (k * stepWidth - 0) (the-gather .last .1 .1 .1 .0))) (the-count .ensures))
 
 pub read-text-spec : {M : Type 1} → statement M
 read-text-spec =
