@@ -122,12 +122,12 @@ pub by-place : {r : ℕ} (n : ℕ) (R : Record) (k : Argument) (x y : ℕ) → l
 by-place {r} n R k x y e p = subst (λ (j : Argument). r ≡ placeFault n R j x) (tells k y e) p
 
 -- one argument of a step further: f is its fault, next the lower of that and the lowest so far
-pub turn : (n : ℕ) (R : Record) {s : List ℕ} (known : Known s) (i f first next : ℕ) → i < 6
+pub turn : (n : ℕ) (R : Record) {row s : List ℕ} (known : Known row s) (i f first next : ℕ) → i < 6
     → f ≡ faultOf n R (getD (rowOf (codeOf s) .takes) i Argument.unused) (getD s (i + 1) 0)
     → min first (faults n R (drop i (rowOf (codeOf s) .takes)) (drop i (argumentsOf s))) ≡ faults n R (rowOf (codeOf s) .takes) (argumentsOf s)
     → next ≡ min first f
     → min next (faults n R (drop (i + 1) (rowOf (codeOf s) .takes)) (drop (i + 1) (argumentsOf s))) ≡ faults n R (rowOf (codeOf s) .takes) (argumentsOf s)
-turn n R {s} known i f first next l e inv p =
+turn n R {s = s} known i f first next l e inv p =
     let ks = rowOf (codeOf s) .takes in
     let xs = argumentsOf s in
     let from : faults n R (drop i ks) (drop i xs) ≡ min f (faults n R (drop (i + 1) ks) (drop (i + 1) xs)) =
@@ -141,10 +141,10 @@ turn n R {s} known i f first next l e inv p =
     lowest x y z v w u a b c = omega arith
 
 -- past the last argument
-pub none-left : (n : ℕ) (R : Record) {s : List ℕ} (known : Known s) (i first : ℕ) → i ≡ 6 → first ≤ 9
+pub none-left : (n : ℕ) (R : Record) {row s : List ℕ} (known : Known row s) (i first : ℕ) → i ≡ 6 → first ≤ 9
     → min first (faults n R (drop i (rowOf (codeOf s) .takes)) (drop i (argumentsOf s))) ≡ faults n R (rowOf (codeOf s) .takes) (argumentsOf s)
     → first ≡ faults n R (rowOf (codeOf s) .takes) (argumentsOf s)
-none-left n R {s} known i first e l inv =
+none-left n R {s = s} known i first e l inv =
     let z : faults n R (drop i (rowOf (codeOf s) .takes)) (drop i (argumentsOf s)) ≡ 9 =
     ap (λ (ks : List Argument). faults n R ks (drop i (argumentsOf s)))
     (drop-of-length-le (rowOf (codeOf s) .takes) {i = i} (le-of-eq (six (codeOf s) (known .low) (known .high) ∙ sym e))) in

@@ -3,21 +3,22 @@
 use mathlib.Core.Bool.{Bool, true, false, _||_, cond}
 use mathlib.Core.List.{List, [], _∷_, map}
 use mathlib.Core.Path.{_≡_, _∙_, refl, sym, ap, ap₂, subst}
-use Prim.Native.Nat.{ℕ, suc, _+_, _*_, _-_, _≤_, _<_}
-use native.Mathlib.Nat.{add-comm, le-of-eq}
+use Prim.Native.Nat.{ℕ, zero, suc, _+_, _*_, _-_, _≤_, _<_}
+use native.Mathlib.Nat.{add-comm, le-of-eq, le-of-suc-le-suc, not-suc-le-zero}
 use native.Mathlib.Numerals.{add-one}
 use native.Mathlib.Omega.{arith}
 use borrow.Author.Tests.{leb-true}
 use lib.Dec.{eqb, leb}
-use lib.ListN.{List·getD-map, drop, drop-of-length-le, getD, length, length-drop}
+use lib.ListN.{List·getD-map, drop, drop-of-length-le, getD, length, length-drop, length-map, take}
 use lib.Seq.{drop-cons, getD-drop}
 use Rattle.messages.proofs.Chain.{left-of, right-of}
-use Rattle.record.specs.Table.{flat}
-use Rattle.record.proofs.Rows.{even-at, numbered}
+use Rattle.record.proofs.Cut.{cut-at, part}
+use Rattle.record.proofs.Rows.{even-at}
 use Rattle.rules.specs.Codes.{Argument, Row, known, letter, row, rowOf, rows, starts, unused}
 use Rattle.rules.specs.Forged.{given, gives}
 use Rattle.rules.specs.Step.{argumentsOf, codeOf}
 use Rattle.arguments.specs.Given.{foundIn}
+use Rattle.arguments.specs.Lent.{rowLetters, tableLetters}
 use Rattle.arguments.specs.Ready.{Known}
 use Rattle.arguments.specs.declared.given.Given.{Given}
 use Rattle.arguments.specs.declared.given.Given.the-variants.{At, Nothing}
@@ -28,23 +29,45 @@ takesOf x = x .takes
 abbrev none : Row
 none = row starts []
 
-row-at : (code : ℕ) → getD (map takesOf rows) (code - 1) (takesOf none) ≡ rowOf code .takes
-row-at code = List·getD-map takesOf rows (code - 1) none
+-- an entry of what a list is turned into, whatever stands for entries past its end
+mapped : {A B : Type 0} (f : A → B) (xs : List A) (k : ℕ) (d : A) (e : B) → k < length xs → getD (map f xs) k e ≡ f (getD xs k d)
+mapped f [] k d e h = absurd (not-suc-le-zero h)
+mapped f (x ∷ xs) zero d e h = refl
+mapped f (x ∷ xs) (suc k) d e h = mapped f xs k d e (le-of-suc-le-suc h)
 
-pub letters : (code i : ℕ) → 1 ≤ code → code ≤ 37 → i < 6
-    → getD (map letter (flat (map takesOf rows))) ((code - 1) * 6 + i) 0 ≡ letter (getD (rowOf code .takes) i unused)
-letters code i l k w =
-    numbered letter 6 (map takesOf rows) unused (takesOf none) refl (code - 1) i (omega arith) w (omega arith)
-    ∙ ap (λ (ks : List Argument). letter (getD ks i unused)) (row-at code)
+-- the lent table has six letters for each code, and those from a code's place on are its row
+pub lent-long : {lent : List ℕ} → lent ≡ tableLetters → length lent ≡ 222
+unfolding tableLetters
+lent-long e = ap length e
+
+pub lent-row : {lent : List ℕ} (code : ℕ) → lent ≡ tableLetters → 1 ≤ code → code ≤ 37
+    → take ((code - 1) * 6 + 6 - (code - 1) * 6) (drop ((code - 1) * 6) lent) ≡ rowLetters (rowOf code)
+unfolding tableLetters
+lent-row {lent} code e l k =
+    part ((code - 1) * 6) 6 lent (omega (arith, lent-long e)) .0
+    ∙ ap (λ (z : List ℕ). take 6 (drop ((code - 1) * 6) z)) e
+    ∙ sym (cut-at 6 37 tableLetters (code - 1) (omega arith))
+    ∙ mapped rowLetters rows (code - 1) none [] (omega arith)
 
 pub six : (code : ℕ) → 1 ≤ code → code ≤ 37 → length (rowOf code .takes) ≡ 6
-six code l k = sym (ap length (row-at code)) ∙ even-at 6 (map takesOf rows) (takesOf none) refl (code - 1) (omega arith)
+six code l k =
+    sym (ap length (List·getD-map takesOf rows (code - 1) none)) ∙ even-at 6 (map takesOf rows) (takesOf none) refl (code - 1) (omega arith)
 
--- a step of seven numbers with a known code
-pub known-step : {s : List ℕ} → length s ≡ 7 → known (codeOf s) ≡ true → Known s
-known-step {s} l e =
+-- the row beside a step
+pub six-letters : {row s : List ℕ} → Known row s → length row ≡ 6
+six-letters {s = s} k = ap length (k .its-row) ∙ length-map (rowOf (codeOf s) .takes) letter ∙ six (codeOf s) (k .low) (k .high)
+
+pub letter-at : {row s : List ℕ} → Known row s → (i : ℕ) → i < 6 → getD row i 0 ≡ letter (getD (rowOf (codeOf s) .takes) i unused)
+letter-at {s = s} k i l =
+    ap (λ (z : List ℕ). getD z i 0) (k .its-row)
+    ∙ mapped letter (rowOf (codeOf s) .takes) i unused 0 (subst (λ (z : ℕ). i < z) (sym (six (codeOf s) (k .low) (k .high))) l)
+
+-- a step of seven numbers with a known code, and the row of that code
+pub known-step : {row s : List ℕ} → length s ≡ 7 → known (codeOf s) ≡ true → row ≡ rowLetters (rowOf (codeOf s)) → Known row s
+known-step {s = s} l e r =
     record {
       seven = l;
+      its-row = r;
       low = leb-true _ _ (left-of (leb 1 (codeOf s)) _ e);
       high = leb-true _ _ (right-of (leb 1 (codeOf s)) (leb (codeOf s) 37) e);
     }
@@ -53,8 +76,8 @@ known-step {s} l e =
 pub argument-at : (s : List ℕ) (i : ℕ) → getD (argumentsOf s) i 0 ≡ getD s (i + 1) 0
 argument-at s i = getD-drop 1 s i 0 ∙ ap (λ (k : ℕ). getD s k 0) (add-comm 1 i)
 
-pub six-arguments : {s : List ℕ} → Known s → length (argumentsOf s) ≡ 6
-six-arguments {s} k = length-drop 1 s ∙ omega (arith, k .seven)
+pub six-arguments : {row s : List ℕ} → Known row s → length (argumentsOf s) ≡ 6
+six-arguments {s = s} k = length-drop 1 s ∙ omega (arith, k .seven)
 
 -- one argument further in the search
 found-cons : (k j : Argument) (js : List Argument) (x : ℕ) (xs : List ℕ)
@@ -74,20 +97,20 @@ found-from k ks xs i l w =
     ∙ ap (λ (n : ℕ). cond (eqb (letter (getD ks i unused)) (letter k)) (At (getD xs i 0)) (foundIn k (drop n ks) (drop n xs)))
     (sym (add-one i))
 
--- in a step: n is the letter of entry i of its row
-pub find-from : {s : List ℕ} (known : Known s) (k : Argument) (i n : ℕ) → i < 6 → n ≡ letter (getD (rowOf (codeOf s) .takes) i unused)
+-- in a step
+pub find-from : {row s : List ℕ} (known : Known row s) (k : Argument) (i : ℕ) → i < 6
     → foundIn k (drop i (rowOf (codeOf s) .takes)) (drop i (argumentsOf s))
-    ≡ cond (eqb n (letter k)) (At (getD s (i + 1) 0)) (foundIn k (drop (i + 1) (rowOf (codeOf s) .takes)) (drop (i + 1) (argumentsOf s)))
-find-from {s} known k i n l w =
+    ≡ cond (eqb (getD row i 0) (letter k)) (At (getD s (i + 1) 0)) (foundIn k (drop (i + 1) (rowOf (codeOf s) .takes)) (drop (i + 1) (argumentsOf s)))
+find-from {s = s} known k i l =
     let ks = rowOf (codeOf s) .takes in
     let xs = argumentsOf s in
     found-from k ks xs i (subst (λ (z : ℕ). i < z) (sym (six (codeOf s) (known .low) (known .high))) l)
     (subst (λ (z : ℕ). i < z) (sym (six-arguments known)) l)
-    ∙ ap₂ (λ (z y : ℕ). cond (eqb z (letter k)) (At y) (foundIn k (drop (i + 1) ks) (drop (i + 1) xs))) (sym w) (argument-at s i)
+    ∙ ap₂ (λ (z y : ℕ). cond (eqb z (letter k)) (At y) (foundIn k (drop (i + 1) ks) (drop (i + 1) xs))) (sym (letter-at known i l)) (argument-at s i)
 
 -- past the last argument
-pub find-over : {s : List ℕ} (known : Known s) (k : Argument) (i : ℕ) → i ≡ 6
+pub find-over : {row s : List ℕ} (known : Known row s) (k : Argument) (i : ℕ) → i ≡ 6
     → foundIn k (drop i (rowOf (codeOf s) .takes)) (drop i (argumentsOf s)) ≡ Nothing
-find-over {s} known k i e =
+find-over {s = s} known k i e =
     ap (λ (ks : List Argument). foundIn k ks (drop i (argumentsOf s)))
     (drop-of-length-le (rowOf (codeOf s) .takes) {i = i} (le-of-eq (six (codeOf s) (known .low) (known .high) ∙ sym e)))

@@ -1,4 +1,5 @@
 pub mod Faults
 pub mod Given
+pub mod Lent
 pub mod Letters
 pub mod Ready

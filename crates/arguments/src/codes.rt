@@ -1,8 +1,8 @@
 // Which arguments each code takes.
 ghost use mathlib.Core.Path.{_≡_};
-ghost use Prim.Native.Nat.{_<_, _≤_};
-ghost use lib.ListN.{getD};
-ghost use Rattle.rules.specs.Codes.{known, letter, rowOf, unused};
+ghost use Prim.Native.Nat.{_≤_};
+ghost use Rattle.arguments.specs.Lent.{rowLetters, tableLetters};
+ghost use Rattle.rules.specs.Codes.{known, rowOf};
 
 // Codes are 1 to 37, and a step has six arguments after its code.
 const MOST_CODE: u16 = 37;
@@ -62,10 +62,19 @@ pub fn is_known(code: u16) -> bool
     code <= MOST_CODE
 }
 
-// What argument i of a code is, i from 0.
-pub fn letter_at(code: usize, i: usize) -> u8
-    requires { ⌜ (1 ≤ code) × (code ≤ 37) × (i < 6) ⌝ }
-    ensures { λ r. ⌜ r ≡ letter (getD (rowOf code .takes) i unused) ⌝ }
+// The whole table. A constant is written anew at each place that reads it, so the table is made once for many steps and lent.
+pub fn all_rows() -> [u8; 222]
+    ensures { λ r. ⌜ r ≡ tableLetters ⌝ }
 {
-    ARGUMENTS[(code - 1) * MOST_ARGUMENTS + i]
+    ARGUMENTS
+}
+
+// The row of a code.
+pub fn row_of(rows: &[u8], code: usize) -> &[u8]
+    requires { ⌜ (now rows ≡ tableLetters) × (1 ≤ code) × (code ≤ 37) ⌝ }
+    ensures { λ r. ⌜ now r ≡ rowLetters (rowOf code) ⌝ }
+{
+    let from = (code - 1) * MOST_ARGUMENTS;
+    let to = from + MOST_ARGUMENTS;
+    &rows[from..to]
 }

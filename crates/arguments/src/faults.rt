@@ -1,7 +1,6 @@
 // Refusals 3, 4 and 5: the first that an argument of a step gives. All ranges come before any place, and all places before any item,
 // whatever the argument's position, so of the numbers that the arguments give the lowest is the step's.
 use crate::codes::MOST_ARGUMENTS;
-use crate::codes::letter_at;
 use crate::items::yields;
 use messages::parts::Place;
 use record::table::message;
@@ -82,15 +81,14 @@ fn fault(t: &[u16], n: usize, letter: u8, x: u16) -> u8
     }
 }
 
-pub fn first_fault(t: &[u16], n: usize, s: &[u16]) -> u8
-    requires { ⌜ (n * messageWidth ≤ length (now t)) × Known (now s) ⌝ }
+pub fn first_fault(t: &[u16], n: usize, row: &[u8], s: &[u16]) -> u8
+    requires { ⌜ (n * messageWidth ≤ length (now t)) × Known (now row) (now s) ⌝ }
     ensures { λ r. ⌜ r ≡ faults n (messages n (now (t .entry))) (rowOf (codeOf (now (s .entry))) .takes) (argumentsOf (now (s .entry))) ⌝ }
 {
-    let code = s[0] as usize;
     let mut first = FINE;
     let mut i = 0;
     while i < MOST_ARGUMENTS {
-        let found = fault(t, n, letter_at(code, i), s[i + 1]);
+        let found = fault(t, n, row[i], s[i + 1]);
         if found < first {
             first = found;
         }

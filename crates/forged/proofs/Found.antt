@@ -1,4 +1,4 @@
--- What the search of a step's row found: the item is given, its place is in 1..n, and the value copied from there is the one that the
+-- What the search of a step's row found: the item is given, its place is in 1..n, and what is read from the message there is what the
 -- definitions name; or it is not given, and what was built stands.
 use mathlib.Core.Bool.{Bool, true, false, _&&_, _||_, cond, true≢false}
 use mathlib.Core.List.{List, [], _∷_}
@@ -16,7 +16,7 @@ use Rattle.messages.specs.Parts.{Message}
 use Rattle.record.specs.Table.{Record, messageAt, messageIn, messages}
 use Rattle.messages.specs.declared.parts.Account.{Account}
 use Rattle.rules.specs.Codes.{Argument, Item, letter}
-use Rattle.rules.specs.Forged.{given, gives}
+use Rattle.rules.specs.Forged.{copied, given, gives}
 use Rattle.rules.specs.Items.{eachArgument, placed, slipIn}
 use Rattle.rules.specs.Step.{argumentsOf, codeOf}
 use Rattle.arguments.proofs.Lowest.{tells}
@@ -25,7 +25,7 @@ use Rattle.messages.proofs.Picks.{no, yes}
 use Rattle.arguments.proofs.Takes.{six, six-arguments}
 use Rattle.arguments.specs.Given.{foundIn}
 use Rattle.arguments.specs.Letters.{argumentLettered}
-use Rattle.forged.specs.Outside.{accountIn, itemIn, numberIn, takenBy}
+use Rattle.forged.specs.Outside.{Offers, accountIn, itemIn, numberIn, takenBy}
 use Rattle.arguments.specs.Ready.{Known, Ready}
 use Rattle.arguments.specs.declared.given.Given.{Given}
 use Rattle.arguments.specs.declared.given.Given.the-variants.{At, Nothing}
@@ -81,7 +81,38 @@ passed f k (j ∷ js) (x ∷ xs) l h e =
     by true q w rec = subst (λ (i : Argument). f i x ≡ true) (same-letter j k q) (left-of (f j x) _ h)
     by false q w rec = rec w
 
-module _ {n : ℕ} {t s : List ℕ} (ready : Ready n t s) where
+pub no-message : (i : Item) (R : Record) (s : List ℕ) → Nothing ≡ foundIn (Argument.at i) (takenBy s) (argumentsOf s) → Offers i R s []
+unfolding itemIn
+no-message i R s e =
+    let g = lost (Argument.at i) (takenBy s) (argumentsOf s) e in
+    record { message = no _ g refl; long = no _ g refl }
+
+-- by its length an offered message is told from none
+module _ {i : Item} {R : Record} {s : List ℕ} {m : Message} (offer : Offers i R s m) where
+  pub stands : {A : Type 0} (read : Message → A) (built : A) → length m ≡ 0 → built ≡ itemIn i read built R s
+  unfolding itemIn
+  stands read built z = by (gives (Argument.at i) (takenBy s)) (offer .long)
+    where
+      by : (b : Bool) → length m ≡ cond b messageWidth 0 → built ≡ cond b (read (copied R (takenBy s) (argumentsOf s) i)) built
+      by true l = absurd (omega arith)
+      by false l = refl
+
+  pub whole-message : (length m ≡ 0 → ⊥) → length m ≡ messageWidth
+  whole-message h = by (gives (Argument.at i) (takenBy s)) (offer .long)
+    where
+      by : (b : Bool) → length m ≡ cond b messageWidth 0 → length m ≡ messageWidth
+      by true l = l
+      by false l = absurd (h l)
+
+  pub read-there : {A : Type 0} (read : Message → A) (built : A) → (length m ≡ 0 → ⊥) → read m ≡ itemIn i read built R s
+  unfolding itemIn
+  read-there read built h = by (gives (Argument.at i) (takenBy s)) (offer .message)
+    where
+      by : (b : Bool) → m ≡ cond b (copied R (takenBy s) (argumentsOf s) i) [] → read m ≡ cond b (read (copied R (takenBy s) (argumentsOf s) i)) built
+      by true e = ap read e
+      by false e = absurd (h (ap length e))
+
+module _ {n : ℕ} {t row s : List ℕ} (ready : Ready n t row s) where
   pub place-passed : (k : Argument) → gives k (takenBy s) ≡ true → placed n k (given k (takenBy s) (argumentsOf s)) ≡ true
   place-passed k e =
       passed (placed n) k (takenBy s) (argumentsOf s)
@@ -102,18 +133,18 @@ module _ {n : ℕ} {t s : List ℕ} (ready : Ready n t s) where
     pub safe : (1 ≤ p) × (p * messageWidth ≤ length t)
     safe = (first-place, in-table ready last-place)
 
-    pub copied : {A : Type 0} (read : Message → A) (built : A) → read (messageIn t (record { 0 = p })) ≡ itemIn i read built (messages n t) s
+    pub found-message : {m : Message} → m ≡ messageIn t (record { 0 = p }) → length m ≡ messageWidth → Offers i (messages n t) s m
     unfolding itemIn
-    copied read built =
-        yes built (found (Argument.at i) (takenBy s) (argumentsOf s) p e)
-        (ap read
-        (sym (message-at n t (record { 0 = p }) first-place last-place)
-        ∙ ap (λ (x : ℕ). messageAt (messages n t) (record { 0 = x })) (found-number (Argument.at i) (takenBy s) (argumentsOf s) p e)))
-
-  pub stands : {A : Type 0} (i : Item) (read : Message → A) (built : A) → Nothing ≡ foundIn (Argument.at i) (takenBy s) (argumentsOf s)
-      → built ≡ itemIn i read built (messages n t) s
-  unfolding itemIn
-  stands i read built e = no _ (lost (Argument.at i) (takenBy s) (argumentsOf s) e) refl
+    found-message q l =
+        let g = found (Argument.at i) (takenBy s) (argumentsOf s) p e in
+        record {
+          message =
+              q
+              ∙ yes [] g
+              (sym (message-at n t (record { 0 = p }) first-place last-place)
+              ∙ ap (λ (x : ℕ). messageAt (messages n t) (record { 0 = x })) (found-number (Argument.at i) (takenBy s) (argumentsOf s) p e));
+          long = l ∙ yes 0 g refl;
+        }
 
   -- a, where it is not his own
   module _ (p : ℕ) (e : p ≡ numberIn Argument.a s) (h : p ≡ 0 → ⊥) where

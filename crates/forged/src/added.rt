@@ -49,21 +49,21 @@ pub struct Gathered {
     pub mark: Mark,
 }
 
-fn gather(t: &[u16], s: &[u16]) -> Gathered
-    requires { ⌜ Ready (roomOf (now t)) (now t) (now s) ⌝ }
-    ensures { λ r. ⌜ ((n : ℕ) → Ready n (now (t .entry)) (now (s .entry)) → r ≡ gatheredIn (messages n (now (t .entry))) (now (s .entry))) ⌝ }
+fn gather(t: &[u16], row: &[u8], s: &[u16]) -> Gathered
+    requires { ⌜ Ready (roomOf (now t)) (now t) (now row) (now s) ⌝ }
+    ensures { λ r. ⌜ ((n : ℕ) → Ready n (now (t .entry)) (now (row .entry)) (now (s .entry)) → r ≡ gatheredIn (messages n (now (t .entry))) (now (s .entry))) ⌝ }
 {
-    let seller = Seller(number(b'S', s));
-    let account = account(t, s);
-    let drawn = drawn(t, s);
-    let buyer = buyer(s, account);
-    let hashed = hashed(t, s, Hashed { drawn, account });
+    let seller = Seller(number(b'S', row, s));
+    let account = account(t, row, s);
+    let drawn = drawn(t, row, s);
+    let buyer = buyer(row, s, account);
+    let hashed = hashed(t, row, s, Hashed { drawn, account });
     let built = Mark {
         seller,
         buyer,
         hashed,
     };
-    let mark = mark(t, s, built);
+    let mark = mark(t, row, s, built);
     Gathered {
         seller,
         account,
@@ -76,32 +76,32 @@ fn gather(t: &[u16], s: &[u16]) -> Gathered
 
 // The five kinds. The maker is the outsider; where no gateway is named it is gateway 1.
 
-pub fn forge_initiate(t: &[u16], s: &[u16]) -> [u16; MESSAGE_WIDTH]
-    requires { ⌜ Ready (roomOf (now t)) (now t) (now s) ⌝ }
-    ensures { λ r. ⌜ ((n : ℕ) → Ready n (now (t .entry)) (now (s .entry)) → r ≡ forgedIn Initiate (messages n (now (t .entry))) (now (s .entry))) ⌝ }
+pub fn forge_initiate(t: &[u16], row: &[u8], s: &[u16]) -> [u16; MESSAGE_WIDTH]
+    requires { ⌜ Ready (roomOf (now t)) (now t) (now row) (now s) ⌝ }
+    ensures { λ r. ⌜ ((n : ℕ) → Ready n (now (t .entry)) (now (row .entry)) (now (s .entry)) → r ≡ forgedIn Initiate (messages n (now (t .entry))) (now (s .entry))) ⌝ }
 {
-    let g = gather(t, s);
+    let g = gather(t, row, s);
     initiate(Buyer(0), g.buyer, g.seller, g.hashed)
 }
 
-pub fn forge_invoice(t: &[u16], s: &[u16]) -> [u16; MESSAGE_WIDTH]
-    requires { ⌜ Ready (roomOf (now t)) (now t) (now s) ⌝ }
-    ensures { λ r. ⌜ ((n : ℕ) → Ready n (now (t .entry)) (now (s .entry)) → r ≡ forgedIn Invoice (messages n (now (t .entry))) (now (s .entry))) ⌝ }
+pub fn forge_invoice(t: &[u16], row: &[u8], s: &[u16]) -> [u16; MESSAGE_WIDTH]
+    requires { ⌜ Ready (roomOf (now t)) (now t) (now row) (now s) ⌝ }
+    ensures { λ r. ⌜ ((n : ℕ) → Ready n (now (t .entry)) (now (row .entry)) (now (s .entry)) → r ≡ forgedIn Invoice (messages n (now (t .entry))) (now (s .entry))) ⌝ }
 {
-    let g = gather(t, s);
+    let g = gather(t, row, s);
     let mark = g.mark;
     let built = InvoiceSigned {
         signer: Seller(0),
         mark,
     };
-    let signed = invoice_signature(t, s, built);
+    let signed = invoice_signature(t, row, s, built);
     invoice(Seller(0), g.seller, g.buyer, mark, signed)
 }
 
 // Without e, a slip is built under key 1.
-fn gathered_slip(t: &[u16], s: &[u16], g: Gathered) -> Slip
-    requires { ⌜ Ready (roomOf (now t)) (now t) (now s) ⌝ }
-    ensures { λ r. ⌜ ((n : ℕ) → Ready n (now (t .entry)) (now (s .entry)) → r ≡ itemIn Item.e slipIn (slipUnder house (g .mark) (g .account) (g .drawn)) (messages n (now (t .entry))) (now (s .entry))) ⌝ }
+fn gathered_slip(t: &[u16], row: &[u8], s: &[u16], g: Gathered) -> Slip
+    requires { ⌜ Ready (roomOf (now t)) (now t) (now row) (now s) ⌝ }
+    ensures { λ r. ⌜ ((n : ℕ) → Ready n (now (t .entry)) (now (row .entry)) (now (s .entry)) → r ≡ itemIn Item.e slipIn (slipUnder house (g .mark) (g .account) (g .drawn)) (messages n (now (t .entry))) (now (s .entry))) ⌝ }
 {
     let mark = g.mark;
     let account = g.account;
@@ -112,44 +112,44 @@ fn gathered_slip(t: &[u16], s: &[u16], g: Gathered) -> Slip
         account,
         drawn,
     };
-    slip(t, s, built)
+    slip(t, row, s, built)
 }
 
-pub fn forge_payment(t: &[u16], s: &[u16]) -> [u16; MESSAGE_WIDTH]
-    requires { ⌜ Ready (roomOf (now t)) (now t) (now s) ⌝ }
-    ensures { λ r. ⌜ ((n : ℕ) → Ready n (now (t .entry)) (now (s .entry)) → r ≡ forgedIn Payment (messages n (now (t .entry))) (now (s .entry))) ⌝ }
+pub fn forge_payment(t: &[u16], row: &[u8], s: &[u16]) -> [u16; MESSAGE_WIDTH]
+    requires { ⌜ Ready (roomOf (now t)) (now t) (now row) (now s) ⌝ }
+    ensures { λ r. ⌜ ((n : ℕ) → Ready n (now (t .entry)) (now (row .entry)) (now (s .entry)) → r ≡ forgedIn Payment (messages n (now (t .entry))) (now (s .entry))) ⌝ }
 {
-    let g = gather(t, s);
+    let g = gather(t, row, s);
     let mark = g.mark;
-    let slip = gathered_slip(t, s, g);
+    let slip = gathered_slip(t, row, s, g);
     let built = BuyerSigned {
         signer: Buyer(0),
         slip,
         mark,
     };
-    let signed = buyer_signature(t, s, built);
+    let signed = buyer_signature(t, row, s, built);
     payment(Buyer(0), g.buyer, g.seller, slip, signed)
 }
 
-pub fn forge_request(t: &[u16], s: &[u16]) -> [u16; MESSAGE_WIDTH]
-    requires { ⌜ Ready (roomOf (now t)) (now t) (now s) ⌝ }
-    ensures { λ r. ⌜ ((n : ℕ) → Ready n (now (t .entry)) (now (s .entry)) → r ≡ forgedIn AuthRequest (messages n (now (t .entry))) (now (s .entry))) ⌝ }
+pub fn forge_request(t: &[u16], row: &[u8], s: &[u16]) -> [u16; MESSAGE_WIDTH]
+    requires { ⌜ Ready (roomOf (now t)) (now t) (now row) (now s) ⌝ }
+    ensures { λ r. ⌜ ((n : ℕ) → Ready n (now (t .entry)) (now (row .entry)) (now (s .entry)) → r ≡ forgedIn AuthRequest (messages n (now (t .entry))) (now (s .entry))) ⌝ }
 {
-    let g = gather(t, s);
+    let g = gather(t, row, s);
     let mark = g.mark;
-    let slip = gathered_slip(t, s, g);
+    let slip = gathered_slip(t, row, s, g);
     let built = RequestSigned {
         signer: Seller(0),
         mark,
         slip,
     };
-    let signed = request_signature(t, s, built);
+    let signed = request_signature(t, row, s, built);
     let built_by_buyer = BuyerSigned {
         signer: Buyer(0),
         slip,
         mark,
     };
-    let signed_by_buyer = buyer_signature(t, s, built_by_buyer);
+    let signed_by_buyer = buyer_signature(t, row, s, built_by_buyer);
     auth_request(
         Seller(0),
         g.seller,
@@ -161,18 +161,18 @@ pub fn forge_request(t: &[u16], s: &[u16]) -> [u16; MESSAGE_WIDTH]
     )
 }
 
-pub fn forge_response(t: &[u16], s: &[u16]) -> [u16; MESSAGE_WIDTH]
-    requires { ⌜ Ready (roomOf (now t)) (now t) (now s) ⌝ }
-    ensures { λ r. ⌜ ((n : ℕ) → Ready n (now (t .entry)) (now (s .entry)) → r ≡ forgedIn AuthResponse (messages n (now (t .entry))) (now (s .entry))) ⌝ }
+pub fn forge_response(t: &[u16], row: &[u8], s: &[u16]) -> [u16; MESSAGE_WIDTH]
+    requires { ⌜ Ready (roomOf (now t)) (now t) (now row) (now s) ⌝ }
+    ensures { λ r. ⌜ ((n : ℕ) → Ready n (now (t .entry)) (now (row .entry)) (now (s .entry)) → r ≡ forgedIn AuthResponse (messages n (now (t .entry))) (now (s .entry))) ⌝ }
 {
-    let g = gather(t, s);
+    let g = gather(t, row, s);
     let mark = g.mark;
-    let code = number(b'c', s);
+    let code = number(b'c', row, s);
     let built = ReplySigned {
         signer: Gateway(0),
         code,
         mark,
     };
-    let signed = reply_signature(t, s, built);
+    let signed = reply_signature(t, row, s, built);
     auth_response(Gateway(0), Gateway(HOUSE), g.seller, code, signed)
 }

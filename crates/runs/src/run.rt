@@ -1,4 +1,5 @@
 // A run of a list of steps: each is judged against what the steps before it left, and a refused one does not stop it.
+use arguments::codes::all_rows;
 use record::table::is_whole;
 use step::judge::Answer;
 use step::judge::judge_step;
@@ -6,6 +7,7 @@ ghost use mathlib.Core.Bool.{true};
 ghost use mathlib.Core.Path.{_≡_};
 ghost use Prim.Native.Nat.{_≤_};
 ghost use lib.ListN.{length};
+ghost use Rattle.arguments.specs.Lent.{tableLetters};
 ghost use Rattle.record.specs.Table.{messages, roomOf, whole};
 ghost use Rattle.rules.specs.Run.{run as runOf, stepCount, wholeSteps};
 ghost use Rattle.rules.specs.Step.{judge};
@@ -37,11 +39,11 @@ struct After {
     number: u8,
 }
 
-fn play_one(t: &mut [u16], n: usize, answers: u16, s: &[u16]) -> After
-    requires { ⌜ (whole (now t) ≡ true) × (n ≤ roomOf (now t)) × (length (now s) ≡ 7) ⌝ }
+fn play_one(t: &mut [u16], n: usize, answers: u16, rows: &[u8], s: &[u16]) -> After
+    requires { ⌜ (whole (now t) ≡ true) × (n ≤ roomOf (now t)) × (now rows ≡ tableLetters) × (length (now s) ≡ 7) ⌝ }
     ensures { λ r. ⌜ OnePlayed n (now (t .entry)) (judge answers (roomOf (now (t .entry))) (messages n (now (t .entry))) (now (s .entry))) (r .number) (r .n) (now (t .exit)) ⌝ }
 {
-    match judge_step(t, n, answers, s) {
+    match judge_step(t, n, answers, rows, s) {
         Answer::Accepted(place) => After {
             n: place.0,
             number: 0,
@@ -55,13 +57,14 @@ pub fn play(t: &mut [u16], answers: u16, steps: &[u16], verdicts: &mut [u8]) -> 
     requires { ⌜ (whole (now t) ≡ true) × (stepCount (now steps) ≤ length (now verdicts)) ⌝ }
     ensures { λ r. ⌜ Plays answers (now (t .entry)) (now (steps .entry)) (now (verdicts .entry)) r (now (t .exit)) (now (verdicts .exit)) ⌝ }
 {
+    let rows = all_rows();
     let count = steps.len() / STEP_WIDTH;
     let mut n = 0;
     let mut i = 0;
     while i < count {
         let from = i * STEP_WIDTH;
         let to = from + STEP_WIDTH;
-        let after = play_one(t, n, answers, &steps[from..to]);
+        let after = play_one(t, n, answers, &rows, &steps[from..to]);
         n = after.n;
         verdicts[i] = after.number;
         i += 1;

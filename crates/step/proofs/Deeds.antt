@@ -1,56 +1,74 @@
--- What the code of a step does: the rows of the forged kinds are neighbours in the table.
-use mathlib.Core.Bool.{Bool, true, _&&_}
-use mathlib.Core.List.{List, [], _∷_, map}
-use mathlib.Core.Path.{_≡_, _∙_, refl, sym, ap, subst}
-use Prim.Native.Nat.{ℕ, _+_, _*_, _-_, _≤_, _<_}
-use native.Mathlib.Nat.{le-trans}
+-- What the code of a step does: the rows of the forged kinds are neighbours in the table, and only steps 2 to 5 have a condition.
+use mathlib.Core.Bool.{Bool, true, false, true≢false}
+use mathlib.Core.List.{List, [], map}
+use mathlib.Core.Path.{_≡_, _∙_, refl, sym, ap}
+use Prim.Native.Nat.{ℕ, _+_, _-_, _≤_, _<_}
 use native.Mathlib.Omega.{arith}
-use borrow.Author.Tests.{le-leb, leb-true}
+use borrow.Author.Tests.{leb-false, leb-true}
 use lib.Dec.{leb}
-use lib.ListN.{List·getD-map, drop, getD, getD-replicate, length, replicate, take}
+use lib.ListN.{List·getD-map, drop, getD, getD-replicate, replicate, take}
 use lib.Seq.{getD-drop, getD-take}
-use Rattle.messages.proofs.Chain.{left-of, right-of, skip}
-use Rattle.messages.specs.Layout.{Kind, messageWidth}
+use Rattle.messages.specs.Layout.{Kind}
 use Rattle.messages.specs.Parts.{Message}
-use Rattle.record.specs.Table.{messages, roomOf}
-use Rattle.rules.specs.Codes.{Argument, Deed, Row, forges, row, rowOf, rows, starts}
-use Rattle.rules.specs.Honest.{Claim}
-use Rattle.rules.specs.Items.{eachArgument, placed}
+use Rattle.messages.specs.Tests.{all}
+use Rattle.record.specs.Table.{Record, messages}
+use Rattle.rules.specs.Codes.{Argument, Deed, Row, asks, forges, invoices, pays, replies, row, rowOf, rows, starts}
+use Rattle.rules.specs.Honest.{holds}
 use Rattle.rules.specs.Step.{added, argumentsOf, claims, codeOf}
-use Rattle.step.specs.Draft.{DraftOf, Drafted}
 use Rattle.forged.specs.Outside.{forgedIn}
-use Rattle.arguments.specs.Ready.{Ready}
-use Rattle.step.specs.declared.drafts.Draft.{Draft}
+use Rattle.step.specs.Coded.{addedIn, allowedIn}
 
-abbrev deedOf : Row → Deed
+abbrev pub deedOf : Row → Deed
 deedOf x = x .deed
 
 abbrev none : Row
 none = row starts []
 
--- n rows after the first l do the same
-pub neighbours : (l n : ℕ) (d : Deed) → take n (drop l (map deedOf rows)) ≡ replicate n d → (code : ℕ) → l < code → code ≤ l + n
-    → rowOf code .deed ≡ d
-neighbours l n d e code h w =
-    let there = map deedOf rows in
+-- n rows after the first l are alike in what f tells of them
+pub neighbours : {A : Type 0} (f : Row → A) (l n : ℕ) (d : A) → take n (drop l (map f rows)) ≡ replicate n d → (code : ℕ) → l < code → code ≤ l + n
+    → f (rowOf code) ≡ d
+neighbours f l n d e code h w =
+    let there = map f rows in
     let k : code - 1 ≡ l + (code - 1 - l) = omega arith in
     let j : code - 1 - l < n = omega arith in
-    sym (List·getD-map deedOf rows (code - 1) none)
-    ∙ ap (λ (i : ℕ). getD there i starts) k
-    ∙ sym (getD-drop l there (code - 1 - l) starts)
-    ∙ sym (getD-take n (drop l there) (code - 1 - l) starts j)
-    ∙ ap (λ (x : List Deed). getD x (code - 1 - l) starts) e
-    ∙ getD-replicate n (code - 1 - l) d starts j
+    sym (List·getD-map f rows (code - 1) none)
+    ∙ ap (λ (i : ℕ). getD there i (f none)) k
+    ∙ sym (getD-drop l there (code - 1 - l) (f none))
+    ∙ sym (getD-take n (drop l there) (code - 1 - l) (f none) j)
+    ∙ ap (λ (x : List _). getD x (code - 1 - l) (f none)) e
+    ∙ getD-replicate n (code - 1 - l) d (f none) j
 
--- a draft with this message
-pub as-message : {cs : List Claim} {d : Draft} {x y : Message} → x ≡ y → DraftOf cs x d → DraftOf cs y d
-as-message {cs} {d} e f = subst (λ (z : Message). DraftOf cs z d) e f
-
-pub forged-draft : (answers n : ℕ) (t s : List ℕ) (k : Kind) {d : Draft} {x : Message} → rowOf (codeOf s) .deed ≡ forges k
-    → x ≡ forgedIn k (messages n t) s → DraftOf [] x d → Drafted answers n t s d
+pub forges-so : (answers n : ℕ) (t s : List ℕ) (k : Kind) {x : Message} → rowOf (codeOf s) .deed ≡ forges k → x ≡ forgedIn k (messages n t) s
+    → x ≡ addedIn answers n t s
 unfolding forgedIn
-forged-draft answers n t s k {d} e p f =
-    subst
-    (λ (z : Deed). DraftOf (claims (messages n t) (rowOf (codeOf s) .takes) (argumentsOf s) z)
-    (added (messages n t) (rowOf (codeOf s) .takes) (argumentsOf s) answers z) d)
-    (sym e) (as-message p f)
+forges-so answers n t s k e p =
+    p ∙ ap (λ (d : Deed). added (messages n t) (rowOf (codeOf s) .takes) (argumentsOf s) answers d) (sym e)
+
+-- only steps 2 to 5 have a condition
+abbrev free : Deed → Bool
+free starts = true
+free invoices = false
+free pays = false
+free asks = false
+free replies = false
+free (forges k) = true
+
+abbrev isFree : Row → Bool
+isFree x = free (x .deed)
+
+freely : (R : Record) (ks : List Argument) (xs : List ℕ) (d : Deed) → free d ≡ true → true ≡ all holds (claims R ks xs d)
+freely R ks xs starts e = refl
+freely R ks xs invoices e = absurd (true≢false (sym e))
+freely R ks xs pays e = absurd (true≢false (sym e))
+freely R ks xs asks e = absurd (true≢false (sym e))
+freely R ks xs replies e = absurd (true≢false (sym e))
+freely R ks xs (forges k) e = refl
+
+pub unconditional : (n : ℕ) (t s : List ℕ) → 1 ≤ codeOf s → codeOf s ≤ 37 → (codeOf s ≡ 2 → ⊥) → (codeOf s ≡ 3 → ⊥) → (codeOf s ≡ 4 → ⊥)
+    → (codeOf s ≡ 5 → ⊥) → true ≡ allowedIn n t s
+unconditional n t s l h two three four five =
+    freely (messages n t) (rowOf (codeOf s) .takes) (argumentsOf s) (rowOf (codeOf s) .deed) (by (leb (codeOf s) 1) refl)
+  where
+    by : (b : Bool) → leb (codeOf s) 1 ≡ b → free (rowOf (codeOf s) .deed) ≡ true
+    by true e = neighbours isFree 0 1 true refl (codeOf s) (omega arith) (omega (arith, leb-true (codeOf s) 1 e))
+    by false e = neighbours isFree 5 32 true refl (codeOf s) (omega (arith, leb-false (codeOf s) 1 e)) (omega arith)

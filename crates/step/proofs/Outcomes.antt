@@ -21,10 +21,9 @@ use Rattle.rules.specs.Step.{Outcome, accepted, added, argumentsOf, claims, cod
 use Rattle.arguments.proofs.Lowest.{three}
 use Rattle.messages.proofs.Picks.{no, yes}
 use Rattle.step.specs.Answer.{Answered}
-use Rattle.step.specs.Draft.{DraftOf, Drafted}
+use Rattle.step.specs.Coded.{addedIn, allowedIn}
 use Rattle.arguments.specs.Faults.{faults}
 use Rattle.arguments.specs.Ready.{Known, Ready}
-use Rattle.step.specs.declared.drafts.Draft.{Draft}
 use Rattle.step.specs.declared.judge.Answer.{Answer}
 use Rattle.step.specs.declared.judge.Answer.the-variants.{Accepted, Refused}
 
@@ -108,7 +107,7 @@ module _ (answers n : ℕ) (t s : List ℕ) where
       unfolding ranged placedIn held three
       opened = all-open ranged (placedIn n) held (sym fine)
 
-      pub ready : Known s → n * messageWidth ≤ length t → Ready n t s
+      pub ready : {row : List ℕ} → Known row s → n * messageWidth ≤ length t → Ready n t row s
       unfolding placedIn
       ready w h = record { known = w; room = h; places = opened .1 }
 
@@ -117,19 +116,18 @@ module _ (answers n : ℕ) (t s : List ℕ) where
       past-arguments =
           unfolded ∙ sym (yes _ k refl) ∙ sym (yes _ (opened .0) refl) ∙ sym (yes _ (opened .1) refl) ∙ sym (yes _ (opened .2) refl)
 
-      module _ (d : Draft) (draft : Drafted answers n t s d) where
-        pub not-allowed : d .allowed ≡ false → judge answers (roomOf t) (messages n t) s ≡ refused 6
-        unfolding rest claimed
-        not-allowed e = past-arguments ∙ sym (no _ (sym (draft .allowed) ∙ e) refl)
+      pub not-allowed : allowedIn n t s ≡ false → judge answers (roomOf t) (messages n t) s ≡ refused 6
+      unfolding rest claimed
+      not-allowed e = past-arguments ∙ sym (no _ e refl)
 
-        pub full : d .allowed ≡ true → ltb n (roomOf t) ≡ false → judge answers (roomOf t) (messages n t) s ≡ refused 7
+      module _ (allowed : allowedIn n t s ≡ true) where
+        pub full : ltb n (roomOf t) ≡ false → judge answers (roomOf t) (messages n t) s ≡ refused 7
         unfolding rest claimed
-        full e h = past-arguments ∙ sym (yes _ (sym (draft .allowed) ∙ e) refl) ∙ sym (no _ h refl)
+        full h = past-arguments ∙ sym (yes _ allowed refl) ∙ sym (no _ h refl)
 
-        pub taken : d .allowed ≡ true → ltb n (roomOf t) ≡ true → judge answers (roomOf t) (messages n t) s ≡ accepted (d .message)
+        pub taken : {m : Message} → ltb n (roomOf t) ≡ true → m ≡ addedIn answers n t s → judge answers (roomOf t) (messages n t) s ≡ accepted m
         unfolding rest claimed message
-        taken e h =
-            past-arguments ∙ sym (yes _ (sym (draft .allowed) ∙ e) refl) ∙ sym (yes _ h refl) ∙ ap accepted (sym (draft .message e))
+        taken h e = past-arguments ∙ sym (yes _ allowed refl) ∙ sym (yes _ h refl) ∙ ap accepted (sym e)
 
 -- with refusal 1 in front
 pub unlawful : (answers n : ℕ) (t s : List ℕ) → lawfulRecord n t ≡ false → judgeTable answers n t s ≡ refused 1

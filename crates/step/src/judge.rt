@@ -1,6 +1,9 @@
 // One step: judged against a record that is known to be lawful, as in a run, and against any table, where refusal 1 comes first.
-use crate::drafts::drafted;
+use crate::codes::added;
+use crate::codes::is_allowed;
+use arguments::codes::all_rows;
 use arguments::codes::is_known;
+use arguments::codes::row_of;
 use arguments::faults::FINE;
 use arguments::faults::first_fault;
 use messages::parts::Place;
@@ -11,6 +14,7 @@ ghost use mathlib.Core.Bool.{true};
 ghost use mathlib.Core.Path.{_≡_};
 ghost use Prim.Native.Nat.{_≤_};
 ghost use lib.ListN.{length};
+ghost use Rattle.arguments.specs.Lent.{tableLetters};
 ghost use Rattle.record.specs.Table.{messages, roomOf, whole};
 ghost use Rattle.rules.specs.Step.{judge as judgeOf, judgeTable};
 ghost use Rattle.step.specs.Answer.{Answered};
@@ -21,20 +25,22 @@ pub enum Answer {
     Refused(u8),
 }
 
-// A step of seven numbers against the first n messages of a table of whole messages, which are not looked through.
-pub fn judge_step(t: &mut [u16], n: usize, answers: u16, s: &[u16]) -> Answer
-    requires { ⌜ (whole (now t) ≡ true) × (n ≤ roomOf (now t)) × (length (now s) ≡ 7) ⌝ }
+// A step of seven numbers against the first n messages of a table of whole messages, which are not looked through; the rows of all codes
+// are lent.
+pub fn judge_step(t: &mut [u16], n: usize, answers: u16, rows: &[u8], s: &[u16]) -> Answer
+    requires { ⌜ (whole (now t) ≡ true) × (n ≤ roomOf (now t)) × (now rows ≡ tableLetters) × (length (now s) ≡ 7) ⌝ }
     ensures { λ r. ⌜ Answered n (now (t .entry)) (judgeOf answers (roomOf (now (t .entry))) (messages n (now (t .entry))) (now (s .entry))) r (now (t .exit)) ⌝ }
 {
-    if !is_known(s[0]) {
+    let code = s[0];
+    if !is_known(code) {
         return Answer::Refused(2);
     }
-    let found = first_fault(t, n, s);
+    let row = row_of(rows, code as usize);
+    let found = first_fault(t, n, row, s);
     if found != FINE {
         return Answer::Refused(found);
     }
-    let draft = drafted(t, n, answers, s);
-    let barred = !draft.allowed;
+    let barred = !is_allowed(t, s);
     let full = room(t) <= n;
     if barred {
         return Answer::Refused(6);
@@ -42,7 +48,7 @@ pub fn judge_step(t: &mut [u16], n: usize, answers: u16, s: &[u16]) -> Answer
     if full {
         return Answer::Refused(7);
     }
-    let m = draft.message;
+    let m = added(t, n, answers, row, s);
     write(t, n, &m);
     Answer::Accepted(Place(n + 1))
 }
@@ -54,5 +60,6 @@ pub fn step(t: &mut [u16], n: usize, answers: u16, s: [u16; 7]) -> Answer
     if !is_lawful_record(t, n) {
         return Answer::Refused(1);
     }
-    judge_step(t, n, answers, &s)
+    let rows = all_rows();
+    judge_step(t, n, answers, &rows, &s)
 }

@@ -1,3 +1,3 @@
 // One step against a record: demand 2 of the approvals office.
-pub mod drafts;
+pub mod codes;
 pub mod judge;

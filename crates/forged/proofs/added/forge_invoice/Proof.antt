@@ -14,7 +14,7 @@ returns : tie.Need-returns
 unfolding forgedIn gatheredIn itemIn
 returns c =
     let the-gather = c .before .before .before .gather in
-    let the-args = c .before .before .before .before .before .before .args in
+    let the-args = c .before .before .before .before .before .before .before .args in
     λ n ready.
     let R = messages n (the-args .t .now) in
     let s = the-args .s .now in

@@ -18,7 +18,7 @@ returns c =
     let the-request-signature = c .before .before .request-signature in
     let the-gathered-slip = c .before .before .before .gathered-slip in
     let the-gather = c .before .before .before .before .before .gather in
-    let the-args = c .before .before .before .before .before .before .before .before .args in
+    let the-args = c .before .before .before .before .before .before .before .before .before .args in
     λ n ready.
     let R = messages n (the-args .t .now) in
     let s = the-args .s .now in

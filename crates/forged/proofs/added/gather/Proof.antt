@@ -17,7 +17,7 @@ returns c =
     let the-drawn = c .before .before .before .drawn in
     let the-account = c .before .before .before .before .account in
     let the-number = c .before .before .before .before .before .number in
-    let the-args = c .before .before .before .before .before .before .before .before .args in
+    let the-args = c .before .before .before .before .before .before .before .before .before .args in
     λ n ready.
     let R = messages n (the-args .t .now) in
     let ks = takenBy (the-args .s .now) in

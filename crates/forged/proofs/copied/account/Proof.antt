@@ -12,12 +12,12 @@ use Rattle.forged.proofs.copied.account.Tie as tie
 
 returns : tie.Need-returns
 returns c =
-    let the-args = c .before .before .before .before .args in
+    let the-args = c .before .before .before .before .before .args in
     λ n ready. account-own (messages n (the-args .t .now)) (the-args .s .now) (c .before .number .result) (c .before .number .ensures Argument.a refl) (c .if1 .taken)
 
 message-requires : tie.Need-message-requires
 message-requires c κs =
-    let the-pre = c .before .before .before .before .pre in
+    let the-pre = c .before .before .before .before .before .pre in
     account-safe (the-pre) (c .before .number .result) (c .before .number .ensures Argument.a refl) (c .if1 .left)
 
 returns-2 : tie.Need-returns-2

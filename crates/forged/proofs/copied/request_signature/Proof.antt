@@ -1,42 +1,27 @@
 -- `forged::copied::request_signature` meets its promise.
-use borrow.Author.Needs.{needs}
-use mathlib.Core.Path.{_∙_, ap, refl, sym}
-use Rattle.rules.specs.Codes.{Argument, Item}
+use mathlib.Core.Path.{_∙_, refl}
+use native.Mathlib.Omega.{arith}
+use Rattle.rules.specs.Codes.{Item}
 use Rattle.rules.specs.Items.{requestSignedIn}
-use Rattle.forged.proofs.Found.{copied, safe, stands}
+use Rattle.forged.proofs.Found.{read-there, stands, whole-message}
 use Rattle.forged.proofs.copied.request_signature.Statement.{statement}
 use Rattle.forged.proofs.copied.request_signature.Tie as tie
 
 returns : tie.Need-returns
 returns c =
-    let the-find = c .before .before .find in
     let the-args = c .before .before .before .before .before .args in
-    λ n ready. stands ready Item.q requestSignedIn (the-args .built) (sym (c .enum-told .given .1) ∙ the-find .ensures (Argument.at Item.q) refl)
-
-message-requires : tie.Need-message-requires
-message-requires c κs =
-    let the-find = c .before .before .before .find in
-    let the-pre = c .before .before .before .before .before .before .pre in
-    safe (the-pre) Item.q (c .before .p .given .0 .0) (sym (c .before .p .given .1) ∙ the-find .ensures (Argument.at Item.q) refl)
+    λ n ready. stands (c .before .given-message .ensures n Item.q refl ready) requestSignedIn (the-args .built) (c .if1 .taken)
 
 returns-2 : tie.Need-returns-2
 returns-2 c =
-    let the-p = c .before .before .before .p in
-    let the-find = c .before .before .before .before .before .find in
-    let the-args = c .before .before .before .before .before .before .before .before .args in
-    λ n ready.
-    c .request-signed-at .ensures ∙ ap requestSignedIn (c .before .message .ensures .0)
-    ∙ copied ready Item.q (the-p .given .0 .0) (sym (the-p .given .1) ∙ the-find .ensures (Argument.at Item.q) refl) requestSignedIn (the-args .built)
+    let the-args = c .before .before .before .before .before .before .args in
+    λ n ready. c .request-signed-at .ensures ∙ read-there (c .before .before .given-message .ensures n Item.q refl ready) requestSignedIn (the-args .built) (c .before .if1 .left)
 
 pub request-signature-spec : {M : Type 1} → statement M
 request-signature-spec =
     tie.close
     (tie.spec
-    (λ c κs. search needs)
-    (λ c. search needs)
-    (λ c. search needs)
+    (λ c κs. (c .before .before .before .pre, record { item = Item.q; its-letter = refl }))
     returns
-    (λ c. search needs)
-    message-requires
-    (λ c κs. search needs)
+    (λ c κs. omega (arith, whole-message (c .before .given-message .ensures _ Item.q refl (c .before .before .before .before .before .pre)) (c .if1 .left)))
     returns-2)

@@ -16,19 +16,22 @@ returns c =
 
 judge-step-requires : tie.Need-judge-step-requires
 judge-step-requires c κs =
-    let the-if1 = c .before .before .if1 in
-    let the-is-lawful-record = c .before .before .before .is-lawful-record in
-    let the-args = c .before .before .before .before .before .before .args in
+    let the-all-rows = c .before .before .before .all-rows in
+    let the-if1 = c .before .before .before .before .if1 in
+    let the-is-lawful-record = c .before .before .before .before .before .is-lawful-record in
+    let the-args = c .before .before .before .before .before .before .before .before .args in
     let e = sym (the-is-lawful-record .ensures) ∙ not-false _ (the-if1 .left) in
-    (lawful-whole (the-args .n) (the-args .t .now) e, lawful-room (the-args .n) (the-args .t .now) e, search needs)
+    (lawful-whole (the-args .n) (the-args .t .now) e, lawful-room (the-args .n) (the-args .t .now) e, the-all-rows .ensures, search needs)
 
 returns-2 : tie.Need-returns-2
 returns-2 c =
     let the-judge-step = c .before .before .judge-step in
-    let the-if1 = c .before .before .before .before .before .if1 in
-    let the-is-lawful-record = c .before .before .before .before .before .before .is-lawful-record in
-    let the-args = c .before .before .before .before .before .before .before .before .before .args in
-    subst (λ (o : Outcome). Answered (the-args .n) (the-args .t .now) o (the-judge-step .result) (the-judge-step .last .0)) (lawful-judged (the-args .answers) (the-args .n) (the-args .t .now) (the-args .t4) (sym (the-is-lawful-record .ensures) ∙ not-false _ (the-if1 .left))) (the-judge-step .ensures)
+    let the-if1 = c .before .before .before .before .before .before .before .if1 in
+    let the-is-lawful-record = c .before .before .before .before .before .before .before .before .is-lawful-record in
+    let the-args = c .before .before .before .before .before .before .before .before .before .before .before .args in
+    subst (λ (o : Outcome). Answered (the-args .n) (the-args .t .now) o (the-judge-step .result) (the-judge-step .last .0))
+    (lawful-judged (the-args .answers) (the-args .n) (the-args .t .now) (the-args .t4) (sym (the-is-lawful-record .ensures) ∙ not-false _ (the-if1 .left)))
+    (the-judge-step .ensures)
 
 pub step-spec : {M : Type 1} → statement M
 step-spec =
@@ -37,6 +40,8 @@ step-spec =
     (λ c κs. search needs)
     (λ c. search needs)
     returns
+    (λ c κs. search needs)
+    (λ c. search needs)
     (λ c. search needs)
     judge-step-requires
     (λ c. search needs)
