@@ -28,4 +28,13 @@ extern "C" {
         n: *mut u16,
     ) -> u8;
     pub fn kp_report(record: *const u16, record_len: usize, n: usize, place: usize) -> u8;
+    pub fn kp_read(
+        text: *const u8,
+        text_len: usize,
+        steps: *mut u16,
+        steps_len: usize,
+        answers: *mut u16,
+        count: *mut u16,
+        line: *mut u16,
+    ) -> u8;
 }

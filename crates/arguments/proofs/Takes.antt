@@ -7,12 +7,14 @@ use Prim.Native.Nat.{ℕ, zero, suc, _+_, _*_, _-_, _≤_, _<_}
 use native.Mathlib.Nat.{add-comm, le-of-eq, le-of-suc-le-suc, not-suc-le-zero}
 use native.Mathlib.Numerals.{add-one}
 use native.Mathlib.Omega.{arith}
-use lib.Dec.{eqb}
+use borrow.Author.Tests.{leb-true}
+use lib.Dec.{eqb, leb}
 use lib.ListN.{List·getD-map, drop, drop-of-length-le, getD, length, length-drop, length-map, take}
 use lib.Seq.{drop-cons, getD-drop}
+use Rattle.messages.proofs.Chain.{left-of, right-of}
 use Rattle.record.proofs.Cut.{cut-at, part}
 use Rattle.record.proofs.Rows.{even-at}
-use Rattle.rules.specs.Codes.{Argument, Row, letter, row, rowOf, rows, starts, unused}
+use Rattle.rules.specs.Codes.{Argument, Row, known, letter, row, rowOf, rows, starts, unused}
 use Rattle.rules.specs.Forged.{given, gives}
 use Rattle.rules.specs.Step.{argumentsOf, codeOf}
 use Rattle.arguments.specs.Given.{foundIn}
@@ -59,6 +61,16 @@ pub letter-at : {row s : List ℕ} → Known row s → (i : ℕ) → i < 6 → g
 letter-at {s = s} k i l =
     ap (λ (z : List ℕ). getD z i 0) (k .its-row)
     ∙ mapped letter (rowOf (codeOf s) .takes) i unused 0 (subst (λ (z : ℕ). i < z) (sym (six (codeOf s) (k .low) (k .high))) l)
+
+-- a step of seven numbers with a known code, and the row of that code
+pub known-step : {row s : List ℕ} → length s ≡ 7 → known (codeOf s) ≡ true → row ≡ rowLetters (rowOf (codeOf s)) → Known row s
+known-step {s = s} l e r =
+    record {
+      seven = l;
+      its-row = r;
+      low = leb-true _ _ (left-of (leb 1 (codeOf s)) _ e);
+      high = leb-true _ _ (right-of (leb 1 (codeOf s)) (leb (codeOf s) 37) e);
+    }
 
 -- the arguments of a step are its numbers after the code
 pub argument-at : (s : List ℕ) (i : ℕ) → getD (argumentsOf s) i 0 ≡ getD s (i + 1) 0

@@ -2,10 +2,10 @@
 ghost use mathlib.Core.Path.{_≡_};
 ghost use Prim.Native.Nat.{_≤_};
 ghost use Rattle.arguments.specs.Lent.{rowLetters, tableLetters};
-ghost use Rattle.rules.specs.Codes.{rowOf};
+ghost use Rattle.rules.specs.Codes.{known, rowOf};
 
 // Codes are 1 to 37, and a step has six arguments after its code.
-pub const MOST_CODE: u16 = 37;
+const MOST_CODE: u16 = 37;
 
 pub const MOST_ARGUMENTS: usize = 6;
 
@@ -51,6 +51,16 @@ Scg---\
 Scm---\
 SBch--\
 Scar--";
+
+// Refusal 2.
+pub fn is_known(code: u16) -> bool
+    ensures { λ r. ⌜ r ≡ known code ⌝ }
+{
+    if code < 1 {
+        return false;
+    }
+    code <= MOST_CODE
+}
 
 // The whole table. A constant is written anew at each place that reads it, so the table is made once for many steps and lent.
 pub fn all_rows() -> [u8; 222]

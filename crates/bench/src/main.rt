@@ -1,5 +1,4 @@
 // The bench: step text from standard input, its results on standard output.
-use results::play::MOST_NUMBERS;
 use results::play::MOST_PRINTED;
 use results::play::play_text;
 

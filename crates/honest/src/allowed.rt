@@ -1,4 +1,9 @@
 // The conditions of the honest steps 2 to 5: a step whose condition does not hold is refused with 6. Step 1 is always allowed.
+use crate::claims::goes;
+use crate::claims::is_signed_by_buyer;
+use crate::claims::is_signed_by_seller;
+use crate::claims::mark_is;
+use crate::claims::slip_is;
 use messages::layout::BODY;
 use messages::layout::DESTINATION;
 use messages::layout::INITIATE_ACCOUNT;
@@ -15,17 +20,16 @@ use messages::parts::HOUSE;
 use messages::parts::Hashed;
 use messages::parts::MARK_WIDTH;
 use messages::parts::Mark;
-use messages::parts::SLIP_WIDTH;
 use messages::parts::Seller;
 use messages::parts::Slip;
 use messages::parts::hashed_at;
 use messages::parts::mark_at;
 use messages::parts::owner;
 use messages::parts::same_mark;
-use messages::parts::same_slip;
 use messages::parts::slip_at;
 ghost use mathlib.Core.Path.{_≡_};
 ghost use lib.ListN.{length};
+ghost use Rattle.honest.specs.Together.{forHouse, ownInitiate, ownInvoice};
 ghost use Rattle.messages.specs.Layout.{messageWidth};
 ghost use Rattle.messages.specs.Tests.{all};
 ghost use Rattle.rules.specs.Honest.{askClaims, holds, invoiceClaims, orderMark, payClaims, rebuilt, replyClaims};
@@ -50,9 +54,10 @@ pub fn order_mark(buyer: Buyer, initiate: &[u16]) -> Mark
     }
 }
 
-pub fn may_pay(buyer: Buyer, initiate: &[u16], invoice: &[u16]) -> bool
-    requires { ⌜ (length (now initiate) ≡ messageWidth) × (length (now invoice) ≡ messageWidth) ⌝ }
-    ensures { λ r. ⌜ r ≡ all holds (payClaims buyer (now (initiate .entry)) (now (invoice .entry))) ⌝ }
+// The Initiate is the buyer's own.
+fn is_own_initiate(buyer: Buyer, initiate: &[u16]) -> bool
+    requires { ⌜ length (now initiate) ≡ messageWidth ⌝ }
+    ensures { λ r. ⌜ r ≡ all holds (ownInitiate buyer (now (initiate .entry))) ⌝ }
 {
     if initiate[MAKER] != buyer.0 {
         return false;
@@ -60,29 +65,31 @@ pub fn may_pay(buyer: Buyer, initiate: &[u16], invoice: &[u16]) -> bool
     if initiate[SOURCE] != buyer.0 {
         return false;
     }
-    if initiate[INITIATE_ACCOUNT] != buyer.0 {
+    initiate[INITIATE_ACCOUNT] == buyer.0
+}
+
+pub fn may_pay(buyer: Buyer, initiate: &[u16], invoice: &[u16]) -> bool
+    requires { ⌜ (length (now initiate) ≡ messageWidth) × (length (now invoice) ≡ messageWidth) ⌝ }
+    ensures { λ r. ⌜ r ≡ all holds (payClaims buyer (now (initiate .entry)) (now (invoice .entry))) ⌝ }
+{
+    if !is_own_initiate(buyer, initiate) {
         return false;
     }
-    let seller = initiate[DESTINATION];
-    if invoice[SOURCE] != seller {
-        return false;
-    }
-    if invoice[DESTINATION] != buyer.0 {
+    let seller = Seller(initiate[DESTINATION]);
+    if !goes(invoice, seller.0, buyer.0) {
         return false;
     }
     let mark = order_mark(buyer, initiate);
-    if !same_mark(mark_at(invoice, BODY), mark) {
+    if !mark_is(invoice, BODY, mark) {
         return false;
     }
-    if invoice[INVOICE_SIGNED] != seller {
-        return false;
-    }
-    same_mark(mark_at(invoice, INVOICE_SIGNED + 1), mark)
+    is_signed_by_seller(invoice, INVOICE_SIGNED, seller, mark)
 }
 
-pub fn may_ask(seller: Seller, invoice: &[u16], payment: &[u16]) -> bool
-    requires { ⌜ (length (now invoice) ≡ messageWidth) × (length (now payment) ≡ messageWidth) ⌝ }
-    ensures { λ r. ⌜ r ≡ all holds (askClaims seller (now (invoice .entry)) (now (payment .entry))) ⌝ }
+// The Invoice is the seller's own, and its mark is for the buyer to whom it went.
+fn is_own_invoice(seller: Seller, invoice: &[u16]) -> bool
+    requires { ⌜ length (now invoice) ≡ messageWidth ⌝ }
+    ensures { λ r. ⌜ r ≡ all holds (ownInvoice seller (now (invoice .entry))) ⌝ }
 {
     if invoice[MAKER] != seller.0 {
         return false;
@@ -93,26 +100,23 @@ pub fn may_ask(seller: Seller, invoice: &[u16], payment: &[u16]) -> bool
     if invoice[BODY] != seller.0 {
         return false;
     }
-    let buyer = invoice[DESTINATION];
-    if invoice[MARK_BUYER] != buyer {
+    invoice[MARK_BUYER] == invoice[DESTINATION]
+}
+
+pub fn may_ask(seller: Seller, invoice: &[u16], payment: &[u16]) -> bool
+    requires { ⌜ (length (now invoice) ≡ messageWidth) × (length (now payment) ≡ messageWidth) ⌝ }
+    ensures { λ r. ⌜ r ≡ all holds (askClaims seller (now (invoice .entry)) (now (payment .entry))) ⌝ }
+{
+    if !is_own_invoice(seller, invoice) {
         return false;
     }
-    if payment[SOURCE] != buyer {
+    let buyer = Buyer(invoice[DESTINATION]);
+    if !goes(payment, buyer.0, seller.0) {
         return false;
     }
-    if payment[DESTINATION] != seller.0 {
-        return false;
-    }
-    if payment[PAYMENT_SIGNED] != buyer {
-        return false;
-    }
-    if !same_slip(slip_at(payment, PAYMENT_SIGNED + 1), slip_at(payment, BODY)) {
-        return false;
-    }
-    same_mark(
-        mark_at(payment, PAYMENT_SIGNED + 1 + SLIP_WIDTH),
-        mark_at(invoice, BODY),
-    )
+    let slip = slip_at(payment, BODY);
+    let mark = mark_at(invoice, BODY);
+    is_signed_by_buyer(payment, PAYMENT_SIGNED, buyer, slip, mark)
 }
 
 // The mark that a slip is for, if this seller asks.
@@ -129,42 +133,39 @@ fn rebuilt_mark(seller: Seller, slip: Slip) -> Mark
     }
 }
 
+// The request goes to the house, and the house can read its slip.
+fn is_for_house(request: &[u16]) -> bool
+    requires { ⌜ length (now request) ≡ messageWidth ⌝ }
+    ensures { λ r. ⌜ r ≡ all holds (forHouse (now (request .entry))) ⌝ }
+{
+    if request[DESTINATION] != HOUSE {
+        return false;
+    }
+    request[REQUEST_SLIP] == HOUSE
+}
+
 pub fn may_reply(request: &[u16]) -> bool
     requires { ⌜ length (now request) ≡ messageWidth ⌝ }
     ensures { λ r. ⌜ r ≡ all holds (replyClaims (now (request .entry))) ⌝ }
 {
+    if !is_for_house(request) {
+        return false;
+    }
     let seller = Seller(request[SOURCE]);
     let mark = mark_at(request, BODY);
     let slip = slip_at(request, REQUEST_SLIP);
-    if request[DESTINATION] != HOUSE {
-        return false;
-    }
-    if request[REQUEST_SLIP] != HOUSE {
-        return false;
-    }
-    if !same_mark(mark_at(request, REQUEST_SLIP + 1), mark) {
+    if !mark_is(request, REQUEST_SLIP + 1, mark) {
         return false;
     }
     if !same_mark(mark, rebuilt_mark(seller, slip)) {
         return false;
     }
-    if request[REQUEST_SIGNED] != seller.0 {
+    if !is_signed_by_seller(request, REQUEST_SIGNED, seller, mark) {
         return false;
     }
-    if !same_mark(mark_at(request, REQUEST_SIGNED + 1), mark) {
+    if !slip_is(request, REQUEST_SIGNED + 1 + MARK_WIDTH, slip) {
         return false;
     }
-    if !same_slip(slip_at(request, REQUEST_SIGNED + 1 + MARK_WIDTH), slip) {
-        return false;
-    }
-    if request[REQUEST_BUYER_SIGNED] != slip.account.0 {
-        return false;
-    }
-    if !same_slip(slip_at(request, REQUEST_BUYER_SIGNED + 1), slip) {
-        return false;
-    }
-    same_mark(
-        mark_at(request, REQUEST_BUYER_SIGNED + 1 + SLIP_WIDTH),
-        mark,
-    )
+    let buyer = owner(slip.account);
+    is_signed_by_buyer(request, REQUEST_BUYER_SIGNED, buyer, slip, mark)
 }

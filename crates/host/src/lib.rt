@@ -1,7 +1,7 @@
 // What hosts in C call, on numbers and lent tables: thin, each with the promise of the operation behind it. host/kp_bench.h says in
 // words what the arguments are.
 use messages::parts::Place;
-use runs::report::report;
+use reports::report::report;
 use runs::run::Ran;
 use runs::run::run;
 use step::judge::Answer;

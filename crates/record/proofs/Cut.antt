@@ -1,13 +1,13 @@
 -- The flat table and the list of pieces that is cut from it: the one bridge between code, which has the table, and definitions, which
 -- speak of the list.
-use mathlib.Core.Bool.{Bool, _&&_}
+use mathlib.Core.Bool.{Bool, true, _&&_}
 use mathlib.Core.List.{List, [], _∷_, _++_, append-assoc, append-nil}
 use mathlib.Core.Path.{_≡_, _∙_, refl, sym, ap, ap₂}
 use Prim.Native.Nat.{ℕ, zero, suc, _+_, _*_, _-_, _≤_, _<_}
-use native.Mathlib.Nat.{add-comm, add-zero, le-of-suc-le-suc, not-suc-le-zero, suc-add, suc-mul, zero-add, zero-mul}
+use native.Mathlib.Nat.{add-comm, add-zero, le-of-eq, le-of-suc-le-suc, not-suc-le-zero, suc-add, suc-mul, zero-add, zero-mul}
 use native.Mathlib.Numerals.{add-one}
 use native.Mathlib.Omega.{arith}
-use lib.ListN.{drop, getD, length, length-drop, length-take, take, take-append-drop}
+use lib.ListN.{drop, drop-of-length-le, getD, length, length-drop, length-take, take, take-append-drop}
 use lib.Seq.{drop-append-le, drop-cons, drop-drop, length-take-le, take-append-le, take-at}
 use Rattle.messages.specs.Layout.{messageWidth}
 use Rattle.messages.specs.Parts.{Message}
@@ -35,6 +35,18 @@ pub all-from : {A : Type 0} (f : A → Bool) (xs : List A) (d : A) (i : ℕ) →
     → all f (drop i xs) ≡ (f (getD xs i d) && all f (drop (i + 1) xs))
 all-from f xs d i h =
     ap (all f) (drop-cons xs i d h) ∙ ap (λ (k : ℕ). f (getD xs i d) && all f (drop k xs)) (sym (add-one i))
+
+-- a test of each of messages 1 to n, from place i + 1 on: r is its answer for the message there
+pub test-next : (f : Message → Bool) (n : ℕ) (t : List ℕ) (i : ℕ) (r : Bool) {m : Message} → i < n → m ≡ messageIn t (record { 0 = i + 1 })
+    → r ≡ f m → all f (drop i (messages n t)) ≡ (r && all f (drop (i + 1) (messages n t)))
+test-next f n t i r h e p =
+    let k : i ≡ i + 1 - 1 = omega arith in
+    all-from f (messages n t) [] i (omega (arith, length-cut messageWidth n t))
+    ∙ ap (λ (b : Bool). b && all f (drop (i + 1) (messages n t)))
+    (ap f (cut-at messageWidth n t i h ∙ ap (λ (j : ℕ). take messageWidth (drop (j * messageWidth) t)) k ∙ sym e) ∙ sym p)
+
+pub test-over : (f : Message → Bool) (n : ℕ) (t : List ℕ) (i : ℕ) → i ≡ n → all f (drop i (messages n t)) ≡ true
+test-over f n t i e = ap (all f) (drop-of-length-le (messages n t) {i = i} (le-of-eq (length-cut messageWidth n t ∙ sym e)))
 
 -- a part of w numbers from a on
 pub part : (a w : ℕ) (t : List ℕ) → a + w ≤ length t

@@ -50,11 +50,13 @@ getD-any [] k d d′ h = absurd (not-suc-le-zero h)
 getD-any (x ∷ l) zero d d′ h = refl
 getD-any (x ∷ l) (suc k) d d′ h = getD-any l k d d′ (le-of-suc-le-suc h)
 
+-- a list of numbers that stands for a list of data: the number at a place is that of what stands there
+pub number-at : {A : Type 0} (number : A → ℕ) (xs : List A) (d : A) (i : ℕ) → i < length (map number xs)
+    → getD (map number xs) i 0 ≡ number (getD xs i d)
+number-at number xs d i h = getD-any (map number xs) i 0 (number d) h ∙ List·getD-map number xs i d
+
 -- a table of numbers that stands for rows of data: entry i of row k is the number of that entry
 pub numbered : {A : Type 0} (number : A → ℕ) (w : ℕ) (rows : List (List A)) (d : A) (ds : List A) → even w rows ≡ true → (k i : ℕ) → k < length rows → i < w
     → k * w + i < length (map number (flat rows))
     → getD (map number (flat rows)) (k * w + i) 0 ≡ number (getD (getD rows k ds) i d)
-numbered number w rows d ds e k i h l b =
-    getD-any (map number (flat rows)) (k * w + i) 0 (number d) b
-    ∙ List·getD-map number (flat rows) (k * w + i) d
-    ∙ ap number (flat-at w rows d ds e k i h l)
+numbered number w rows d ds e k i h l b = number-at number (flat rows) d (k * w + i) b ∙ ap number (flat-at w rows d ds e k i h l)

@@ -7,20 +7,28 @@ use lib.ListN.{getD, length}
 use Rattle.messages.specs.Layout.{filled, kindOf, messageWidth}
 use Rattle.messages.specs.Parts.{Message}
 use Rattle.messages.specs.Tests.{between}
+use Rattle.record.specs.declared.lawful.Span.{Span}
 
 -- what a position may hold: nothing (it is unused), a kind, a buyer, a seller, a gateway, an account, a draw, a response code
 pub data Range : Type 0 where
   unused kinds buyers sellers gateways accounts draws codes : Range
 
+abbrev pub span : ℕ → ℕ → Span
+span least most = record { 0 = least; 1 = most }
+
+-- the least and the most number of a range
+abbrev pub spanOf : Range → Span
+spanOf unused = span 0 0
+spanOf kinds = span 1 5
+spanOf buyers = span 0 15
+spanOf sellers = span 0 15
+spanOf gateways = span 0 1
+spanOf accounts = span 0 15
+spanOf draws = span 1 512
+spanOf codes = span 1 2
+
 abbrev pub within : Range → ℕ → Bool
-within unused x = between 0 x 0
-within kinds x = between 1 x 5
-within buyers x = between 0 x 15
-within sellers x = between 0 x 15
-within gateways x = between 0 x 1
-within accounts x = between 0 x 15
-within draws x = between 1 x 512
-within codes x = between 1 x 2
+within r x = between (spanOf r .0) x (spanOf r .1)
 
 -- the parts
 abbrev pub hashedRanges : List Range

@@ -1,8 +1,20 @@
--- The table of ranges as the code lends it: the rows of the kinds one after the other.
-use Prim.Native.Nat.{ℕ}
+-- The table of ranges as it is lent: the least and the most number of each position, the rows of the kinds one after the other.
+use Prim.Native.Nat.{ℕ, _*_}
 use mathlib.Core.List.{List, map}
-use Rattle.record.specs.Lawful.{kindRanges, letter}
+use Rattle.messages.specs.Layout.{messageWidth}
+use Rattle.record.specs.Lawful.{Range, kindRanges, spanOf}
 use Rattle.record.specs.Table.{flat}
+use Rattle.record.specs.declared.lawful.Span.{Span}
 
-unfoldable pub rangeLetters : List ℕ
-rangeLetters = map letter (flat kindRanges)
+abbrev pub positions : ℕ
+positions = 5 * messageWidth
+
+-- a number of each position's span
+unfoldable pub ofSpans : (Span → ℕ) → List ℕ
+ofSpans side = map (λ (r : Range). side (spanOf r)) (flat kindRanges)
+
+abbrev pub leastNumbers : List ℕ
+leastNumbers = ofSpans (λ (s : Span). s .0)
+
+abbrev pub mostNumbers : List ℕ
+mostNumbers = ofSpans (λ (s : Span). s .1)

@@ -7,54 +7,68 @@ ghost use mathlib.Core.Path.{_≡_};
 ghost use mathlib.Core.List.{[]};
 ghost use Prim.Native.Nat.{_<_};
 ghost use lib.ListN.{getD, length};
-ghost use Rattle.messages.specs.Tests.{between};
-ghost use Rattle.record.specs.Lawful.{fits, kindRanges, lawful, rangeLettered, within};
+ghost use Rattle.record.specs.Lawful.{fits, kindRanges, lawful, rangeLettered, spanOf};
+ghost use Rattle.record.specs.Lent.{leastNumbers, mostNumbers, positions};
 ghost use Rattle.messages.specs.Layout.{messageWidth};
-ghost use Rattle.record.specs.Lent.{rangeLetters};
+
+// The positions of the five kinds.
+pub const POSITIONS: usize = 5 * MESSAGE_WIDTH;
 
 // What each position may hold, a row for each kind from Initiate to Auth-Response. K is a kind, B a buyer, S a seller, G a
 // gateway, A an account, D a draw, C a response code; a position with - is unused.
-pub const RANGES: [u8; 240] = *b"\
+const RANGES: [u8; POSITIONS] = *b"\
 KBBSBDA-----------------------------------------\
 KSSBSBBDASSBBDA---------------------------------\
 KBBSGSBBDAABDBGSBBDAABDSBBDA--------------------\
 KSSGSBBDAGSBBDAABDSSBBDAGSBBDAABDBGSBBDAABDSBBDA\
 KGGSCGCSBBDA------------------------------------";
 
-fn in_range(range: u8, x: u16) -> bool
-    ensures { λ r. ⌜ r ≡ within (rangeLettered range) x ⌝ }
+// The least and the most number of a range.
+struct Span(u16, u16);
+
+fn span_of(range: u8) -> Span
+    ensures { λ r. ⌜ r ≡ spanOf (rangeLettered range) ⌝ }
 {
     match range {
-        b'K' => bounded(1, x, 5),
-        b'B' => bounded(0, x, 15),
-        b'S' => bounded(0, x, 15),
-        b'A' => bounded(0, x, 15),
-        b'G' => bounded(0, x, 1),
-        b'D' => bounded(1, x, 512),
-        b'C' => bounded(1, x, 2),
-        _ => bounded(0, x, 0),
+        b'K' => Span(1, 5),
+        b'B' => Span(0, 15),
+        b'S' => Span(0, 15),
+        b'A' => Span(0, 15),
+        b'G' => Span(0, 1),
+        b'D' => Span(1, 512),
+        b'C' => Span(1, 2),
+        _ => Span(0, 0),
     }
 }
 
-fn bounded(least: u16, x: u16, most: u16) -> bool
-    ensures { λ r. ⌜ r ≡ between least x most ⌝ }
+// The least and the most number of each position. Whoever holds many messages to the table makes these once and lends them: a
+// constant is written anew at each place that reads it, which would take longer than the comparing.
+pub fn bounds(least: &mut [u16], most: &mut [u16])
+    requires { ⌜ (length (now least) ≡ positions) × (length (now most) ≡ positions) ⌝ }
+    ensures { λ _. ⌜ (now (least .exit) ≡ leastNumbers) × (now (most .exit) ≡ mostNumbers) ⌝ }
 {
-    if x < least {
-        return false;
+    let ranges = RANGES;
+    let mut i = 0;
+    while i < POSITIONS {
+        let span = span_of(ranges[i]);
+        least[i] = span.0;
+        most[i] = span.1;
+        i += 1;
     }
-    x <= most
 }
 
 pub fn is_lawful(m: &[u16]) -> bool
     ensures { λ r. ⌜ r ≡ lawful (now (m .entry)) ⌝ }
 {
-    let ranges = RANGES;
-    is_lawful_by(&ranges, m)
+    let mut least = [0u16; POSITIONS];
+    let mut most = [0u16; POSITIONS];
+    bounds(&mut least, &mut most);
+    is_lawful_by(&least, &most, m)
 }
 
-// The same for many messages: a constant is written anew at each place that reads it, so the table is lent.
-pub fn is_lawful_by(ranges: &[u8], m: &[u16]) -> bool
-    requires { ⌜ now ranges ≡ rangeLetters ⌝ }
+// The same with the bounds lent.
+pub fn is_lawful_by(least: &[u16], most: &[u16], m: &[u16]) -> bool
+    requires { ⌜ (now least ≡ leastNumbers) × (now most ≡ mostNumbers) ⌝ }
     ensures { λ r. ⌜ r ≡ lawful (now (m .entry)) ⌝ }
 {
     if m.len() != MESSAGE_WIDTH {
@@ -67,21 +81,23 @@ pub fn is_lawful_by(ranges: &[u8], m: &[u16]) -> bool
     if AUTH_RESPONSE < kind {
         return false;
     }
-    in_row(ranges, (kind - INITIATE) as usize, m)
+    in_row(least, most, (kind - INITIATE) as usize, m)
 }
 
-// Whether each number of a message is in the range that a row of the table gives it.
-fn in_row(ranges: &[u8], row: usize, m: &[u16]) -> bool
-    requires { ⌜ (now ranges ≡ rangeLetters) × (row < 5) × (length (now m) ≡ messageWidth) ⌝ }
+// Whether each number of a message is within the bounds that a row gives it. All of them are compared, with no way out between
+// them, so that the compiler takes eight at a time.
+fn in_row(least: &[u16], most: &[u16], row: usize, m: &[u16]) -> bool
+    requires { ⌜ (now least ≡ leastNumbers) × (now most ≡ mostNumbers) × (row < 5) × (length (now m) ≡ messageWidth) ⌝ }
     ensures { λ r. ⌜ r ≡ fits (getD kindRanges row []) (now (m .entry)) ⌝ }
 {
     let first = row * MESSAGE_WIDTH;
+    let mut good = true;
     let mut i = 0;
     while i < MESSAGE_WIDTH {
-        if !in_range(ranges[first + i], m[i]) {
-            return false;
-        }
+        let not_below = least[first + i] <= m[i];
+        let not_above = m[i] <= most[first + i];
+        good = good & not_below & not_above;
         i += 1;
     }
-    true
+    good
 }

@@ -1,5 +1,6 @@
 // The record: a flat table of numbers, 48 to a message, and how many messages stand in it.
-use crate::lawful::RANGES;
+use crate::lawful::POSITIONS;
+use crate::lawful::bounds;
 use crate::lawful::is_lawful_by;
 use messages::layout::MESSAGE_WIDTH;
 use messages::parts::Place;
@@ -9,7 +10,7 @@ ghost use lib.ListN.{length};
 ghost use Rattle.messages.specs.Layout.{messageWidth};
 ghost use Rattle.messages.specs.Tests.{all};
 ghost use Rattle.record.specs.Lawful.{lawful};
-ghost use Rattle.record.specs.Lent.{rangeLetters};
+ghost use Rattle.record.specs.Lent.{leastNumbers, mostNumbers};
 ghost use Rattle.record.specs.Table.{lawfulRecord, messageIn, messages, roomOf, whole, withMessage, withNumbers};
 
 pub const MOST_ROOM: usize = 512;
@@ -51,18 +52,20 @@ pub fn is_lawful_record(t: &[u16], n: usize) -> bool
     if room(t) < n {
         return false;
     }
-    let ranges = RANGES;
-    are_lawful(&ranges, t, n)
+    let mut least = [0u16; POSITIONS];
+    let mut most = [0u16; POSITIONS];
+    bounds(&mut least, &mut most);
+    are_lawful(&least, &most, t, n)
 }
 
-// Messages 1 to n, with the table of ranges lent.
-fn are_lawful(ranges: &[u8], t: &[u16], n: usize) -> bool
-    requires { ⌜ (now ranges ≡ rangeLetters) × (n * messageWidth ≤ length (now t)) ⌝ }
+// Messages 1 to n, with the bounds lent.
+fn are_lawful(least: &[u16], most: &[u16], t: &[u16], n: usize) -> bool
+    requires { ⌜ (now least ≡ leastNumbers) × (now most ≡ mostNumbers) × (n * messageWidth ≤ length (now t)) ⌝ }
     ensures { λ r. ⌜ r ≡ all lawful (messages n (now (t .entry))) ⌝ }
 {
     let mut i = 0;
     while i < n {
-        if !is_lawful_by(ranges, message(t, Place(i + 1))) {
+        if !is_lawful_by(least, most, message(t, Place(i + 1))) {
             return false;
         }
         i += 1;

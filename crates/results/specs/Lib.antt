@@ -3,3 +3,4 @@ pub mod Printed
 pub mod Put
 pub mod Rows
 pub mod Shown
+pub mod Widths

@@ -49,9 +49,10 @@ resultsOf room (says answers ss) = results answers room ss
 resultsOf room (unreadable at) = refusedLine 10 at
 resultsOf room tooLong = refusedLine 11 0
 
--- of a text, with room for so many messages
+-- what the reader says of a text, with the program's step table
 abbrev pub reading : Text → Reading
 reading text = readText (mostSteps * stepWidth) text
 
+-- of a text, with room for so many messages
 unfoldable pub output : ℕ → Text → Text
 output room text = resultsOf room (reading text)

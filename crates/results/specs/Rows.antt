@@ -1,14 +1,13 @@
 -- The lines of a list that was played, as the code comes by them: of the steps by their numbers alone, of a reply by its place in the table.
-use Prim.Native.Nat.{ℕ, _+_, _*_}
+use Prim.Native.Nat.{ℕ, _+_}
 use mathlib.Core.Bool.{cond}
 use mathlib.Core.List.{List, [], _∷_}
 use lib.Dec.{eqb}
 use Rattle.messages.specs.Parts.{Message}
-use Rattle.record.specs.Table.{Record, messageIn, messages, mostRoom}
+use Rattle.record.specs.Table.{Record, messageIn, messages}
 use Rattle.rules.specs.Report.{houseReply, replyMark}
-use Rattle.rules.specs.Run.{mostSteps}
 use Rattle.rules.specs.Said.{replyRow, replyRows}
-use Rattle.steptext.specs.Text.{Text, mostDigits}
+use Rattle.steptext.specs.Text.{Text}
 use Rattle.results.specs.Printed.{linesOf, replyLine, stepLine}
 
 -- a step of this number with n messages before it: its place, and how many messages there are after it
@@ -35,19 +34,3 @@ lineAfter t p = lineIf (messages p t) p (messageIn t (record { 0 = p + 1 }))
 
 abbrev pub replyLines : Record → Text
 replyLines R = linesOf replyLine (replyRows R 0 R)
-
--- the most bytes of a number with its tab, of a line, and of all lines
-abbrev pub cellWidth : ℕ
-cellWidth = 1 + mostDigits
-
-abbrev pub stepWidest : ℕ
-stepWidest = 3 * cellWidth
-
-abbrev pub replyWidest : ℕ
-replyWidest = 4 * cellWidth + 2
-
-abbrev pub refusedWidest : ℕ
-refusedWidest = 2 * cellWidth + 2
-
-abbrev pub mostPrinted : ℕ
-mostPrinted = mostSteps * stepWidest + mostRoom * replyWidest

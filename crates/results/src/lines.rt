@@ -1,4 +1,5 @@
 // The three kinds of line that the program prints.
+use crate::put::CELL_WIDEST;
 use crate::put::put_byte;
 use crate::put::put_cell;
 use crate::put::put_number;
@@ -8,10 +9,16 @@ ghost use Prim.Native.Nat.{_+_, _≤_};
 ghost use lib.ListN.{length};
 ghost use Rattle.results.specs.Printed.{refusedLine, replyLine, stepLine};
 ghost use Rattle.results.specs.Put.{Put};
+ghost use Rattle.results.specs.Widths.{refusedWidest, replyWidest, stepWidest};
+
+// The most bytes of the first two.
+pub const STEP_WIDEST: usize = 3 * CELL_WIDEST;
+
+pub const REPLY_WIDEST: usize = 4 * CELL_WIDEST + 2;
 
 pub fn put_step_line(out: &mut [u8], at: usize, ordinal: u16, number: u16, place: u16) -> usize
-    requires { ⌜ at + 18 ≤ length (now out) ⌝ }
-    ensures { λ r. ⌜ Put (now (out .entry)) at (stepLine (ordinal ∷ number ∷ place ∷ [])) 18 (now (out .exit)) r ⌝ }
+    requires { ⌜ at + stepWidest ≤ length (now out) ⌝ }
+    ensures { λ r. ⌜ Put (now (out .entry)) at (stepLine (ordinal ∷ number ∷ place ∷ [])) stepWidest (now (out .exit)) r ⌝ }
 {
     let first = put_number(out, at, ordinal);
     let second = put_cell(out, first, number);
@@ -27,8 +34,8 @@ pub fn put_reply_line(
     buyer: u16,
     report: u16,
 ) -> usize
-    requires { ⌜ at + 26 ≤ length (now out) ⌝ }
-    ensures { λ r. ⌜ Put (now (out .entry)) at (replyLine (place ∷ seller ∷ buyer ∷ report ∷ [])) 26 (now (out .exit)) r ⌝ }
+    requires { ⌜ at + replyWidest ≤ length (now out) ⌝ }
+    ensures { λ r. ⌜ Put (now (out .entry)) at (replyLine (place ∷ seller ∷ buyer ∷ report ∷ [])) replyWidest (now (out .exit)) r ⌝ }
 {
     let first = put_byte(out, at, b'R');
     let second = put_cell(out, first, place);
@@ -39,8 +46,8 @@ pub fn put_reply_line(
 }
 
 pub fn put_refused_line(out: &mut [u8], number: u16, line: u16) -> usize
-    requires { ⌜ 14 ≤ length (now out) ⌝ }
-    ensures { λ r. ⌜ Put (now (out .entry)) 0 (refusedLine number line) 14 (now (out .exit)) r ⌝ }
+    requires { ⌜ refusedWidest ≤ length (now out) ⌝ }
+    ensures { λ r. ⌜ Put (now (out .entry)) 0 (refusedLine number line) refusedWidest (now (out .exit)) r ⌝ }
 {
     let first = put_byte(out, 0, b'E');
     let second = put_cell(out, first, number);

@@ -1,4 +1,6 @@
 // A text played on a lent record, with its results in lent bytes: all that the program does between reading and writing.
+use crate::lines::REPLY_WIDEST;
+use crate::lines::STEP_WIDEST;
 use crate::lines::put_refused_line;
 use crate::rows::put_results;
 use messages::layout::MESSAGE_WIDTH;
@@ -16,14 +18,14 @@ ghost use lib.ListN.{length};
 ghost use Rattle.record.specs.Table.{flat, roomOf, whole};
 ghost use Rattle.results.specs.Printed.{results};
 ghost use Rattle.results.specs.Put.{Put};
-ghost use Rattle.results.specs.Rows.{mostPrinted};
+ghost use Rattle.results.specs.Widths.{mostPrinted};
 ghost use Rattle.results.specs.Shown.{Shows};
 ghost use Rattle.rules.specs.Run.{mostSteps, over, played, stepCount, stepsOf};
 
 // The numbers of a record with the most room, and the most bytes that its results take.
 pub const MOST_NUMBERS: usize = MOST_ROOM * MESSAGE_WIDTH;
 
-pub const MOST_PRINTED: usize = 31744;
+pub const MOST_PRINTED: usize = MOST_STEPS * STEP_WIDEST + MOST_ROOM * REPLY_WIDEST;
 
 fn play_steps(out: &mut [u8], table: &mut [u16], answers: u16, steps: &[u16]) -> usize
     requires { ⌜ (mostPrinted ≤ length (now out)) × (whole (now table) ≡ true) × (stepCount (now steps) ≤ mostSteps) ⌝ }

@@ -1,11 +1,16 @@
 // Bytes and numbers put into a lent table. Each function writes at a place and returns the next.
 use steptext::bytes::TAB;
+use steptext::numbers::MOST_DIGITS;
 ghost use mathlib.Core.List.{[], _∷_};
 ghost use Prim.Native.Nat.{_+_, _≤_};
 ghost use lib.ListN.{length};
 ghost use Rattle.results.specs.Decimal.{decimal};
 ghost use Rattle.results.specs.Put.{Put};
+ghost use Rattle.results.specs.Widths.{cellWidest};
 ghost use Rattle.steptext.specs.Text.{mostDigits, tab};
+
+// The most bytes of a number with its tab: it has at most 5 digits.
+pub const CELL_WIDEST: usize = 1 + MOST_DIGITS;
 
 pub fn put_byte(out: &mut [u8], at: usize, byte: u8) -> usize
     requires { ⌜ at + 1 ≤ length (now out) ⌝ }
@@ -28,8 +33,8 @@ pub fn put_number(out: &mut [u8], at: usize, n: u16) -> usize
 
 // A number that is not the first part of its line.
 pub fn put_cell(out: &mut [u8], at: usize, n: u16) -> usize
-    requires { ⌜ at + 6 ≤ length (now out) ⌝ }
-    ensures { λ r. ⌜ Put (now (out .entry)) at (tab ∷ decimal n) 6 (now (out .exit)) r ⌝ }
+    requires { ⌜ at + cellWidest ≤ length (now out) ⌝ }
+    ensures { λ r. ⌜ Put (now (out .entry)) at (tab ∷ decimal n) cellWidest (now (out .exit)) r ⌝ }
 {
     let next = put_byte(out, at, TAB);
     put_number(out, next, n)

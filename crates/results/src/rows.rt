@@ -5,8 +5,8 @@ use messages::layout::REPLY_SIGNED;
 use messages::parts::Place;
 use messages::signed::reply_signed_at;
 use record::table::message;
-use runs::report::is_house_reply;
-use runs::report::report_on;
+use reports::report::is_house_reply;
+use reports::report::report_on;
 ghost use mathlib.Core.List.{_++_};
 ghost use mathlib.Core.Path.{_≡_};
 ghost use Prim.Native.Nat.{_*_, _+_, _<_, _≤_};
@@ -14,7 +14,8 @@ ghost use lib.ListN.{length};
 ghost use Rattle.messages.specs.Layout.{messageWidth};
 ghost use Rattle.record.specs.Table.{messages, mostRoom};
 ghost use Rattle.results.specs.Put.{Put};
-ghost use Rattle.results.specs.Rows.{countBy, lineAfter, mostPrinted, placeBy, replyLines, replyWidest, stepLines, stepWidest};
+ghost use Rattle.results.specs.Rows.{countBy, lineAfter, placeBy, replyLines, stepLines};
+ghost use Rattle.results.specs.Widths.{mostPrinted, replyWidest, stepWidest};
 ghost use Rattle.rules.specs.Run.{mostSteps};
 
 // A step's place, and how many messages there are after it.

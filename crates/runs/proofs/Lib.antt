@@ -1,3 +1,2 @@
 pub mod Played
 pub mod Refusals
-pub mod Standing

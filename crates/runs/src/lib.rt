@@ -1,3 +1,2 @@
-// A run of a list of steps from an empty record, and the report on a reply.
-pub mod report;
+// A run of a list of steps from an empty record.
 pub mod run;

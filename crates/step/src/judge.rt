@@ -1,8 +1,8 @@
 // One step: judged against a record that is known to be lawful, as in a run, and against any table, where refusal 1 comes first.
 use crate::codes::added;
 use crate::codes::is_allowed;
-use arguments::codes::MOST_CODE;
 use arguments::codes::all_rows;
+use arguments::codes::is_known;
 use arguments::codes::row_of;
 use arguments::faults::FINE;
 use arguments::faults::first_fault;
@@ -32,10 +32,7 @@ pub fn judge_step(t: &mut [u16], n: usize, answers: u16, rows: &[u8], s: &[u16])
     ensures { λ r. ⌜ Answered n (now (t .entry)) (judgeOf answers (roomOf (now (t .entry))) (messages n (now (t .entry))) (now (s .entry))) r (now (t .exit)) ⌝ }
 {
     let code = s[0];
-    if code < 1 {
-        return Answer::Refused(2);
-    }
-    if MOST_CODE < code {
+    if !is_known(code) {
         return Answer::Refused(2);
     }
     let row = row_of(rows, code as usize);

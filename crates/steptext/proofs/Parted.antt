@@ -2,10 +2,11 @@
 use mathlib.Core.Bool.{Bool, true, false, cond}
 use mathlib.Core.List.{List, [], _∷_, _++_}
 use mathlib.Core.Path.{_≡_, _∙_, refl, sym, ap, ap₂, subst}
-use Prim.Native.Nat.{ℕ, zero, suc, _+_, _-_, _≤_, _<_}
+use Prim.Native.Nat.{ℕ, zero, suc, _+_, _-_, _^_, _≤_, _<_}
+use borrow.Author.Tests.{leb-false, leb-true}
 use native.Mathlib.Numerals.{add-one}
 use native.Mathlib.Omega.{arith}
-use lib.Dec.{eqb}
+use lib.Dec.{eqb, leb}
 use lib.ListN.{drop, drop-of-length-le, getD, length, length-drop, length-take, take}
 use lib.Seq.{drop-drop, drop-length, take-all, take-nil}
 use Rattle.steptext.specs.Text.{Text, before, lineAt, lineFeed, lines, onto, parts, tab}
@@ -88,40 +89,28 @@ line-within t at h =
     let d = length-drop at t in
     (omega arith, omega arith)
 
--- what the code finds of a line: where it ends, and the bytes up to there
-take-taken : (k : ℕ) (t : Text) → take (length (take k t)) t ≡ take k t
-take-taken zero t = refl
-take-taken (suc k) [] = refl
-take-taken (suc k) (x ∷ t) = ap (λ (z : Text). x ∷ z) (take-taken k t)
+-- behind the line that starts at a position of a text stands a position again
+by-where : (b : Bool) (t : Text) (at : ℕ) → leb (length t) at ≡ b → length t < 2 ^ 64 → at < 2 ^ 64 → at + length (lineAt t at) < 2 ^ 64
+by-where true t at e h k = let n = ap length (line-past t at (leb-true (length t) at e)) in omega arith
+by-where false t at e h k = let w = line-within t at (leb-false (length t) at e) .1 in omega arith
 
+pub behind-fits : (t : Text) (at : ℕ) (l : Text) → l ≡ lineAt t at → length t < 2 ^ 64 → at < 2 ^ 64 → at + length l < 2 ^ 64
+behind-fits t at l e h k =
+    subst (λ (z : Text). at + length z < 2 ^ 64) (sym e) (by-where (leb (length t) at) t at refl h k)
+
+-- as parts of the text, for the three ways in which the code hands a line over
 module _ (t : Text) (at : ℕ) where
-  pub none-starts : length t ≤ at → at ≡ at + length (lineAt t at)
-  none-starts h = let e = ap length (line-past t at h) in omega arith
-
-  long : at < length t → length (lineAt t at) ≡ length (take (suc (before lineFeed (drop at t))) (drop at t))
-  long h = ap length (line-here t at h)
-
-  pub ends-last : at < length t → length t ≡ at + before lineFeed (drop at t) → length t ≡ at + length (lineAt t at)
-  ends-last h e =
-      let k = before lineFeed (drop at t) in
-      let n = long h ∙ length-take (suc k) (drop at t) in
-      let d = length-drop at t in
-      omega arith
-
-  pub ends-here : (end : ℕ) → at < length t → end ≡ at + before lineFeed (drop at t) → end < length t
-      → end + 1 ≡ at + length (lineAt t at)
-  ends-here end h e w =
-      let k = before lineFeed (drop at t) in
-      let n = long h ∙ length-take (suc k) (drop at t) in
-      let d = length-drop at t in
-      omega arith
-
   pub no-line : length t ≤ at → take (length t - length t) (drop (length t) t) ≡ lineAt t at
   no-line h = ap (take (length t - length t)) (drop-length t) ∙ take-nil (length t - length t) ∙ sym (line-past t at h)
 
-  pub line-to : (end : ℕ) → at < length t → end ≡ at + length (lineAt t at) → take (end - at) (drop at t) ≡ lineAt t at
-  line-to end h e =
-      let n : end - at ≡ length (lineAt t at) = omega arith in
-      ap (λ (j : ℕ). take j (drop at t)) (n ∙ long h)
-      ∙ take-taken (suc (before lineFeed (drop at t))) (drop at t)
+  pub last-line : at < length t → length t ≡ at + before lineFeed (drop at t) → take (length t - at) (drop at t) ≡ lineAt t at
+  last-line h e =
+      let d = length-drop at t in
+      take-all (length t - at) (drop at t) (omega arith)
+      ∙ sym (take-all (suc (before lineFeed (drop at t))) (drop at t) (omega arith))
       ∙ sym (line-here t at h)
+
+  pub line-to : (end : ℕ) → at < length t → end ≡ at + before lineFeed (drop at t) → take (end + 1 - at) (drop at t) ≡ lineAt t at
+  line-to end h e =
+      let k : end + 1 - at ≡ suc (before lineFeed (drop at t)) = omega arith in
+      ap (λ (j : ℕ). take j (drop at t)) k ∙ sym (line-here t at h)

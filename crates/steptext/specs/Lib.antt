@@ -1,3 +1,4 @@
+pub mod Handed
 pub mod Number
 pub mod Read
 pub mod Says

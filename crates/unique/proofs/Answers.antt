@@ -17,7 +17,7 @@ use Rattle.step.specs.declared.judge.Answer.the-variants.{Accepted, Refused}
 use Rattle.steptext.specs.Told.{Leaves as TextLeaves, textAnswers, textCount, textLine, textNumber}
 use Rattle.steptext.specs.declared.read.TextRead.{TextRead}
 use Rattle.steptext.specs.declared.read.TextRead.the-variants.{Says, TooLong, Unreadable}
-use Rattle.unique.specs.Unique.{RunUnique, StepUnique, TextUnique}
+use Rattle.unique.specs.Unique.{PlayUnique, RunUnique, StepUnique, TextUnique}
 
 -- a refused step is told from an accepted one by its place
 not-both : (n : ℕ) (o : Outcome) → (o ≡ refused 0 → ⊥) → 0 ≡ numberOf o → 0 ≡ placeOf n o → ⊥
@@ -68,3 +68,7 @@ text-unique text t r r′ left left′ w w′ =
     let a = w .tells in
     let b = w′ .tells in
     (same-read r r′ (a .number ∙ sym (b .number)) (a .answers ∙ sym (b .answers)) (a .count ∙ sym (b .count)) (a .line ∙ sym (b .line)), w .table ∙ sym (w′ .table))
+
+pub play-unique : PlayUnique
+play-unique text t out r r′ table table′ left left′ a b =
+    (a .count ∙ sym (b .count), a .record-left ∙ sym (b .record-left), a .printed ∙ sym (b .printed))

@@ -5,6 +5,7 @@ use mathlib.Core.List.{List}
 use mathlib.Core.Path.{_≡_}
 use lib.ListN.{length}
 use Rattle.host.specs.Entries.{Ran as RanBy, Read, Stepped}
+use Rattle.results.specs.Shown.{Shows}
 use Rattle.rules.specs.Run.{Ran as RanOf, run}
 use Rattle.rules.specs.Step.{Outcome, Step, judgeTable}
 use Rattle.runs.specs.Ran.{Leaves as RunLeaves}
@@ -40,6 +41,12 @@ TextUnique =
     (text : Text) (t : List ℕ) (r r′ : TextRead) (left left′ : List ℕ)
     → let o = readText (length t) text in
     TextLeaves o t r left → TextLeaves o t r′ left′ → (r ≡ r′) × (left ≡ left′)
+
+-- `play_text` (proofs/Answers)
+abbrev pub PlayUnique : Type 0
+PlayUnique =
+    (text t out : List ℕ) (r r′ : ℕ) (table table′ left left′ : List ℕ) → Shows text t out r table left → Shows text t out r′ table′ left′
+    → (r ≡ r′) × (table ≡ table′) × (left ≡ left′)
 
 -- `kp_step`, `kp_run`, `kp_read` (proofs/Entries)
 abbrev pub KpStepUnique : Type 0

@@ -1,13 +1,13 @@
 //! Times the proved engine, as a host in C calls it, beside the independent
-//! program: runs of 1,024 steps, one step on a full record and one report on
-//! it, in one process and on the same inputs.
+//! program: runs of 1,024 steps, one step on a full record, one report on it
+//! and the reading of a step text, in one process and on the same inputs.
 //!
 //! `benchmark [REPEATS [WORD]]`: only what has the word in its name, if one is
 //! given. In each repeat both sides are called once, each on tables of its
 //! own, and the side that begins changes from one repeat to the next, so that
 //! a drift of the machine meets both. The depth of the stack changes too.
 //! Before each call, outside the timed part, the tables are set back to what
-//! they were: zeros for a run. After each pair the answers and all tables must
+//! they were: zeros for a run and a text. After each pair the answers and all tables must
 //! be equal; if not, the exit status is 1. The ratio is taken pair by pair.
 
 #[path = "../inputs/dice.rs"]
@@ -18,8 +18,8 @@ mod engine;
 mod playing;
 
 use dice::Dice;
-use engine::{kp_report, kp_run, kp_step};
-use independent::{report, run, step, MAX_STEPS, ROOM, STEP, WIDTH};
+use engine::{kp_read, kp_report, kp_run, kp_step};
+use independent::{read_text, report, run, step, TextRead, MAX_STEPS, ROOM, STEP, WIDTH};
 use playing::List;
 use std::hint::black_box;
 use std::time::Instant;
@@ -34,8 +34,9 @@ const ANSWERS: u16 = 0x5555;
 /// What is shown of a spread.
 const PERCENTS: [usize; 5] = [50, 25, 75, 5, 95];
 
-/// A number returned, and the place or count that goes with it.
-type Answer = (u8, u16);
+/// A number returned, and the place or count that goes with it; with a text
+/// the account answers, the count of steps and the line.
+type Answer = (u8, [u16; 3]);
 type Step = [u16; STEP];
 
 // ---------------------------------------------------------------------------
@@ -56,6 +57,16 @@ impl Tables {
     }
 }
 
+/// An answer with one number beside it.
+fn with_one((number, one): (u8, u16)) -> Answer {
+    (number, [one, 0, 0])
+}
+
+/// An answer of the reader.
+fn of_text(TextRead { number, answers, count, line }: TextRead) -> Answer {
+    (number, [answers, count, line])
+}
+
 fn engine_run(lent: &mut Tables, answers: u16, steps: &[u16]) -> Answer {
     let Tables { numbers: record, bytes: verdicts } = lent;
     let mut n = 0;
@@ -73,7 +84,7 @@ fn engine_run(lent: &mut Tables, answers: u16, steps: &[u16]) -> Answer {
             &mut n,
         )
     };
-    (number, n)
+    with_one((number, n))
 }
 
 fn engine_step(record: &mut [u16], n: usize, answers: u16, s: Step) -> Answer {
@@ -83,12 +94,22 @@ fn engine_step(record: &mut [u16], n: usize, answers: u16, s: Step) -> Answer {
     // SAFETY: as in `engine_run`.
     let number =
         unsafe { kp_step(table, len, n, answers, code, a1, a2, a3, a4, a5, a6, &mut place) };
-    (number, place)
+    with_one((number, place))
 }
 
 fn engine_report(record: &[u16], n: usize, place: usize) -> Answer {
     // SAFETY: as in `engine_run`.
-    (unsafe { kp_report(record.as_ptr(), record.len(), n, place) }, 0)
+    with_one((unsafe { kp_report(record.as_ptr(), record.len(), n, place) }, 0))
+}
+
+fn engine_read(text: &[u8], steps: &mut [u16]) -> Answer {
+    let (bytes, len) = (text.as_ptr(), text.len());
+    let (table, numbers) = (steps.as_mut_ptr(), steps.len());
+    let [mut answers, mut count, mut line] = [0; 3];
+    // SAFETY: as in `engine_run`.
+    let number =
+        unsafe { kp_read(bytes, len, table, numbers, &mut answers, &mut count, &mut line) };
+    (number, [answers, count, line])
 }
 
 type Call = Box<dyn Fn(&mut Tables) -> Answer>;
@@ -110,7 +131,7 @@ fn run_of(name: &'static str, list: &[Step]) -> Case {
         before,
         engine: Box::new(move |lent| engine_run(lent, ANSWERS, black_box(&steps))),
         own: Box::new(move |lent| {
-            run(&mut lent.numbers, ANSWERS, black_box(&same_steps), &mut lent.bytes)
+            with_one(run(&mut lent.numbers, ANSWERS, black_box(&same_steps), &mut lent.bytes))
         }),
     }
 }
@@ -120,7 +141,7 @@ fn step_on(name: &'static str, record: &[u16], n: usize, s: Step) -> Case {
         name,
         before: Tables { numbers: record.to_vec(), bytes: Vec::new() },
         engine: Box::new(move |lent| engine_step(&mut lent.numbers, n, ANSWERS, black_box(s))),
-        own: Box::new(move |lent| step(&mut lent.numbers, n, ANSWERS, black_box(s))),
+        own: Box::new(move |lent| with_one(step(&mut lent.numbers, n, ANSWERS, black_box(s)))),
     }
 }
 
@@ -129,7 +150,18 @@ fn report_on(name: &'static str, record: &[u16], n: usize, place: usize) -> Case
         name,
         before: Tables { numbers: record.to_vec(), bytes: Vec::new() },
         engine: Box::new(move |lent| engine_report(&lent.numbers, n, black_box(place))),
-        own: Box::new(move |lent| (report(&lent.numbers, n, black_box(place)), 0)),
+        own: Box::new(move |lent| with_one((report(&lent.numbers, n, black_box(place)), 0))),
+    }
+}
+
+fn read_of(name: &'static str, text: Vec<u8>) -> Case {
+    println!("{name}: {} bytes", text.len());
+    let same_text = text.clone();
+    Case {
+        name,
+        before: Tables { numbers: vec![0; MAX_STEPS * STEP], bytes: Vec::new() },
+        engine: Box::new(move |lent| engine_read(black_box(&text), &mut lent.numbers)),
+        own: Box::new(move |lent| of_text(read_text(black_box(&same_text), &mut lent.numbers))),
     }
 }
 
@@ -183,6 +215,9 @@ fn refused_list() -> Vec<Step> {
     steps
 }
 
+/// The paper's list P1.
+const P1: &[u8] = b"A\t8\n1\t3\t2\n2\t2\t1\n3\t3\t1\t2\n4\t2\t2\t3\n5\t4\n31\t2\t2\t3\n5\t6\n";
+
 /// How many steps of a list get each number, and the record it leaves.
 fn played(name: &str, list: &[Step]) -> (Vec<u16>, usize) {
     let mut record = vec![0; ROOM * WIDTH];
@@ -197,8 +232,19 @@ fn played(name: &str, list: &[Step]) -> (Vec<u16>, usize) {
     (record, n.into())
 }
 
-/// All that is measured. The reading of a step text will stand here too: a
-/// case of its own, whose tables are the step table and no bytes.
+/// A list as step text. Arguments that are 0 at the end are left off.
+fn text_of(list: &[Step]) -> Vec<u8> {
+    let mut text = format!("A\t{ANSWERS}\n");
+    for s in list {
+        let used = s.iter().rposition(|&number| number != 0).map_or(1, |last| last + 1);
+        let numbers: Vec<String> = s[..used].iter().map(u16::to_string).collect();
+        text += &numbers.join("\t");
+        text.push('\n');
+    }
+    text.into_bytes()
+}
+
+/// All that is measured.
 fn cases() -> Vec<Case> {
     let lists = [
         ("run, honest", honest_list()),
@@ -213,6 +259,8 @@ fn cases() -> Vec<Case> {
     cases.push(step_on("step, last place free", full, n - 1, again));
     cases.push(step_on("step, no room", full, *n, again));
     cases.push(report_on("report, full record", full, *n, last_reply));
+    cases.push(read_of("text, 1,024 steps", text_of(&lists[1].1)));
+    cases.push(read_of("text, 7 steps", P1.to_vec()));
     cases
 }
 

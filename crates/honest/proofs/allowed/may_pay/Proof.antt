@@ -1,113 +1,56 @@
 -- `honest::allowed::may_pay` meets its promise.
 use borrow.Author.Needs.{needs}
 use borrow.Author.Tests.{not-false, not-true}
-use mathlib.Core.Path.{_∙_, _≡_, ap, ap₂, refl, sym}
-use native.Mathlib.Omega.{arith}
-use Rattle.messages.proofs.Chain.{last, skip, stop}
-use Rattle.messages.specs.Parts.{sameMark, sameSlip}
-use Rattle.honest.proofs.Claims.{differs, is}
+use mathlib.Core.Path.{_∙_, refl, sym}
+use Rattle.honest.proofs.Parted.{pay-parts}
+use Rattle.messages.proofs.Chain.{skip, stop}
 use Rattle.honest.proofs.allowed.may_pay.Statement.{statement}
 use Rattle.honest.proofs.allowed.may_pay.Tie as tie
 
 returns : tie.Need-returns
-returns c = stop _ (differs (c .if1 .taken))
+returns c =
+    let the-args = c .before .before .before .before .args in
+    stop _ (sym (c .before .is-own-initiate .ensures) ∙ not-true _ (c .if1 .taken)) ∙ sym (pay-parts (the-args .buyer) (the-args .initiate .now) (the-args .invoice .now) refl)
 
 returns-2 : tie.Need-returns-2
 returns-2 c =
     let the-if1 = c .before .before .before .if1 in
-    skip (is (the-if1 .left)) (stop _ (differs (c .if2 .taken)))
+    let the-is-own-initiate = c .before .before .before .before .is-own-initiate in
+    let the-args = c .before .before .before .before .before .before .before .args in
+    skip (sym (the-is-own-initiate .ensures) ∙ not-false _ (the-if1 .left)) (stop _ (sym (c .before .goes .ensures) ∙ not-true _ (c .if2 .taken))) ∙ sym (pay-parts (the-args .buyer) (the-args .initiate .now) (the-args .invoice .now) refl)
 
 returns-3 : tie.Need-returns-3
 returns-3 c =
+    let the-order-mark = c .before .before .order-mark in
     let the-if2 = c .before .before .before .if2 in
+    let the-goes = c .before .before .before .before .goes in
     let the-if1 = c .before .before .before .before .before .before .if1 in
-    skip (is (the-if1 .left)) (skip (is (the-if2 .left)) (stop _ (differs (c .if3 .taken))))
+    let the-is-own-initiate = c .before .before .before .before .before .before .before .is-own-initiate in
+    let the-args = c .before .before .before .before .before .before .before .before .before .before .args in
+    skip (sym (the-is-own-initiate .ensures) ∙ not-false _ (the-if1 .left)) (skip (sym (the-goes .ensures) ∙ not-false _ (the-if2 .left)) (stop _ (sym (c .before .mark-is .ensures) ∙ not-true _ (c .if3 .taken)))) ∙ sym (pay-parts (the-args .buyer) (the-args .initiate .now) (the-args .invoice .now) (the-order-mark .ensures))
 
 returns-4 : tie.Need-returns-4
 returns-4 c =
-    let the-if3 = c .before .before .before .if3 in
-    let the-if2 = c .before .before .before .before .before .before .if2 in
-    let the-if1 = c .before .before .before .before .before .before .before .before .before .if1 in
-    skip (is (the-if1 .left)) (skip (is (the-if2 .left)) (skip (is (the-if3 .left)) (stop _ (differs (c .if4 .taken)))))
-
-returns-5 : tie.Need-returns-5
-returns-5 c =
-    let the-if4 = c .before .before .before .if4 in
-    let the-if3 = c .before .before .before .before .before .before .if3 in
-    let the-if2 = c .before .before .before .before .before .before .before .before .before .if2 in
-    let the-if1 = c .before .before .before .before .before .before .before .before .before .before .before .before .if1 in
-    skip (is (the-if1 .left)) (skip (is (the-if2 .left)) (skip (is (the-if3 .left)) (skip (is (the-if4 .left)) (stop _ (differs (c .if5 .taken))))))
-
-returns-6 : tie.Need-returns-6
-returns-6 c =
-    let the-mark-at = c .before .before .mark-at in
+    let the-mark-is = c .before .before .mark-is in
     let the-order-mark = c .before .before .before .order-mark in
-    let the-if5 = c .before .before .before .before .if5 in
-    let the-if4 = c .before .before .before .before .before .before .before .if4 in
-    let the-if3 = c .before .before .before .before .before .before .before .before .before .before .if3 in
-    let the-if2 = c .before .before .before .before .before .before .before .before .before .before .before .before .before .if2 in
-    let the-if1 = c .before .before .before .before .before .before .before .before .before .before .before .before .before .before .before .before .if1 in
-    skip (is (the-if1 .left)) (skip (is (the-if2 .left)) (skip (is (the-if3 .left)) (skip (is (the-if4 .left)) (skip (is (the-if5 .left)) (stop _ (ap₂ sameMark (sym (the-mark-at .ensures)) (sym (the-order-mark .ensures)) ∙ sym (c .before .same-mark .ensures) ∙ not-true _ (c .if6 .taken)))))))
-
-shared-slice-read-if7 : tie.Need-shared-slice-read-if7
-shared-slice-read-if7 c =
-    let the-pre = c .before .before .before .before .before .before .before .before .before .before .before .before .before .before .before .before .before .before .before .before .before .before .pre in
-    omega (arith, the-pre)
-
-returns-7 : tie.Need-returns-7
-returns-7 c =
-    let the-if6 = c .before .before .if6 in
-    let the-same-mark = c .before .before .before .same-mark in
-    let the-mark-at = c .before .before .before .before .mark-at in
-    let the-order-mark = c .before .before .before .before .before .order-mark in
-    let the-if5 = c .before .before .before .before .before .before .if5 in
-    let the-if4 = c .before .before .before .before .before .before .before .before .before .if4 in
-    let the-if3 = c .before .before .before .before .before .before .before .before .before .before .before .before .if3 in
-    let the-if2 = c .before .before .before .before .before .before .before .before .before .before .before .before .before .before .before .if2 in
-    let the-if1 = c .before .before .before .before .before .before .before .before .before .before .before .before .before .before .before .before .before .before .if1 in
-    skip (is (the-if1 .left)) (skip (is (the-if2 .left)) (skip (is (the-if3 .left)) (skip (is (the-if4 .left)) (skip (is (the-if5 .left)) (skip (ap₂ sameMark (sym (the-mark-at .ensures)) (sym (the-order-mark .ensures)) ∙ sym (the-same-mark .ensures) ∙ not-false _ (the-if6 .left)) (stop _ (differs (c .if7 .taken))))))))
-
-mark-at-requires-2 : tie.Need-mark-at-requires-2
-mark-at-requires-2 c κs =
-    let the-pre = c .before .before .before .before .before .before .before .before .before .before .before .before .before .before .before .before .before .before .before .before .before .before .before .pre in
-    omega (arith, the-pre)
-
-returns-8 : tie.Need-returns-8
-returns-8 c =
-    let the-if7 = c .before .before .if7 in
-    let the-if6 = c .before .before .before .before .if6 in
-    let the-same-mark = c .before .before .before .before .before .same-mark in
-    let the-mark-at = c .before .before .before .before .before .before .mark-at in
-    let the-order-mark = c .before .before .before .before .before .before .before .order-mark in
-    let the-if5 = c .before .before .before .before .before .before .before .before .if5 in
-    let the-if4 = c .before .before .before .before .before .before .before .before .before .before .before .if4 in
-    let the-if3 = c .before .before .before .before .before .before .before .before .before .before .before .before .before .before .if3 in
-    let the-if2 = c .before .before .before .before .before .before .before .before .before .before .before .before .before .before .before .before .before .if2 in
-    let the-if1 = c .before .before .before .before .before .before .before .before .before .before .before .before .before .before .before .before .before .before .before .before .if1 in
-    skip (is (the-if1 .left)) (skip (is (the-if2 .left)) (skip (is (the-if3 .left)) (skip (is (the-if4 .left)) (skip (is (the-if5 .left)) (skip (ap₂ sameMark (sym (the-mark-at .ensures)) (sym (the-order-mark .ensures)) ∙ sym (the-same-mark .ensures) ∙ not-false _ (the-if6 .left)) (skip (is (the-if7 .left)) (last (c .same-mark2 .ensures ∙ ap₂ sameMark (c .before .mark-at2 .ensures) (the-order-mark .ensures)))))))))
+    let the-if2 = c .before .before .before .before .if2 in
+    let the-goes = c .before .before .before .before .before .goes in
+    let the-if1 = c .before .before .before .before .before .before .before .if1 in
+    let the-is-own-initiate = c .before .before .before .before .before .before .before .before .is-own-initiate in
+    let the-args = c .before .before .before .before .before .before .before .before .before .before .before .args in
+    skip (sym (the-is-own-initiate .ensures) ∙ not-false _ (the-if1 .left)) (skip (sym (the-goes .ensures) ∙ not-false _ (the-if2 .left)) (skip (sym (the-mark-is .ensures) ∙ not-false _ (c .before .if3 .left)) (c .is-signed-by-seller .ensures))) ∙ sym (pay-parts (the-args .buyer) (the-args .initiate .now) (the-args .invoice .now) (the-order-mark .ensures))
 
 pub may-pay-spec : {M : Type 1} → statement M
 may-pay-spec =
     tie.close
     (tie.spec
-    (λ c. search needs)
+    (λ c κs. search needs)
     returns
     (λ c. search needs)
+    (λ c κs. search needs)
     returns-2
-    (λ c. search needs)
+    (λ c κs. search needs)
+    (λ c κs. search needs)
     returns-3
-    (λ c. search needs)
-    (λ c. search needs)
-    returns-4
-    (λ c. search needs)
-    returns-5
     (λ c κs. search needs)
-    (λ c κs. search needs)
-    (λ c κs. search needs)
-    returns-6
-    shared-slice-read-if7
-    returns-7
-    (λ c. search needs)
-    mark-at-requires-2
-    (λ c κs. search needs)
-    returns-8)
+    returns-4)

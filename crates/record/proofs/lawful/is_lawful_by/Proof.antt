@@ -33,13 +33,13 @@ returns c = stop _ (ne-eqb _ _ (c .if1 .taken))
 returns-2 : tie.Need-returns-2
 returns-2 c =
     let the-if1 = c .before .before .if1 in
-    let the-args = c .before .before .before .before .before .args in
+    let the-args = c .before .before .before .before .before .before .args in
     skip (eq-eqb _ _ (the-if1 .left)) (below (the-args .m .now) (the-if1 .left) (c .if2 .taken))
 
 returns-3 : tie.Need-returns-3
 returns-3 c =
     let the-if1 = c .before .before .before .if1 in
-    let the-args = c .before .before .before .before .before .before .args in
+    let the-args = c .before .before .before .before .before .before .before .args in
     skip (eq-eqb _ _ (the-if1 .left)) (above (the-args .m .now) (the-if1 .left) (c .if3 .taken))
 
 returns-4 : tie.Need-returns-4

@@ -1,10 +1,9 @@
 -- `record::table::is_lawful_record` meets its promise.
 use borrow.Author.Needs.{needs}
 use borrow.Author.Tests.{le-leb, lt-leb, not-false, not-true}
-use mathlib.Core.Path.{_∙_, refl, sym}
+use mathlib.Core.Path.{_∙_, sym}
 use native.Mathlib.Omega.{arith}
 use Rattle.messages.proofs.Chain.{skip, stop}
-use Rattle.record.specs.Lent.{rangeLetters}
 use Rattle.record.specs.Table.{roomOf}
 use Rattle.record.proofs.table.is_lawful_record.Statement.{statement}
 use Rattle.record.proofs.table.is_lawful_record.Tie as tie
@@ -19,15 +18,11 @@ returns-2 c =
     let the-args = c .before .before .before .before .before .args in
     skip (sym (the-is-whole .ensures) ∙ not-false _ (the-if1 .left)) (stop _ (lt-leb (the-args .n) (roomOf (the-args .t .now)) (omega arith)))
 
-are-lawful-requires : tie.Need-are-lawful-requires
-unfolding rangeLetters
-are-lawful-requires c κs = (refl, omega arith)
-
 returns-3 : tie.Need-returns-3
 returns-3 c =
-    let the-if1 = c .before .before .before .before .if1 in
-    let the-is-whole = c .before .before .before .before .before .is-whole in
-    let the-args = c .before .before .before .before .before .before .before .args in
+    let the-if1 = c .before .before .before .before .before .before .before .before .before .before .if1 in
+    let the-is-whole = c .before .before .before .before .before .before .before .before .before .before .before .is-whole in
+    let the-args = c .before .before .before .before .before .before .before .before .before .before .before .before .before .args in
     skip (sym (the-is-whole .ensures) ∙ not-false _ (the-if1 .left))
     (skip (le-leb (the-args .n) (roomOf (the-args .t .now)) (omega arith)) (c .are-lawful .ensures))
 
@@ -40,5 +35,9 @@ is-lawful-record-spec =
     (λ c κs. search needs)
     returns-2
     (λ c. search needs)
-    are-lawful-requires
+    (λ c. search needs)
+    (λ c κs. search needs)
+    (λ c. search needs)
+    (λ c. search needs)
+    (λ c κs. search needs)
     returns-3)

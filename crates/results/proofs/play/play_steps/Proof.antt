@@ -5,7 +5,7 @@ use mathlib.Core.Path.{sym, subst}
 use native.Mathlib.Omega.{arith}
 use Rattle.results.proofs.Playing.{in-table, printed}
 use Rattle.results.specs.Put.{Put}
-use Rattle.results.specs.Rows.{mostPrinted}
+use Rattle.results.specs.Widths.{mostPrinted}
 use Rattle.rules.specs.Run.{stepCount}
 use Rattle.steptext.specs.Text.{Text}
 use Rattle.results.proofs.play.play_steps.Statement.{statement}

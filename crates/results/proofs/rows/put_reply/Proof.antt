@@ -5,7 +5,7 @@ use mathlib.Core.Path.{_∙_, subst, sym}
 use Rattle.results.proofs.Told.{its-line, no-line}
 use Rattle.results.proofs.Writing.{none}
 use Rattle.results.specs.Put.{Put}
-use Rattle.results.specs.Rows.{replyWidest}
+use Rattle.results.specs.Widths.{replyWidest}
 use Rattle.steptext.specs.Text.{Text}
 use Rattle.results.proofs.rows.put_reply.Statement.{statement}
 use Rattle.results.proofs.rows.put_reply.Tie as tie

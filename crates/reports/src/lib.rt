@@ -1,0 +1,4 @@
+// The report on a place of a record.
+pub mod look;
+pub mod payment;
+pub mod report;
