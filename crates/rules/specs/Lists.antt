@@ -2,18 +2,18 @@
 -- place of every step; place, seller, buyer and report of every house reply.
 use Prim.Native.Nat.{ℕ}
 use mathlib.Core.Bool.{Bool, _&&_}
-use mathlib.Core.List.{List, [], _∷_, _++_, map}
+use mathlib.Core.List.{List, [], _∷_, _++_}
 use lib.ListN.{length}
-use Rattle.messages.specs.Layout.{filled}
 use Rattle.messages.specs.Tests.{all, same}
-use Rattle.rules.specs.Run.{played, stepWidth}
+use Rattle.rules.specs.Run.{played}
 use Rattle.rules.specs.Said.{replyRows, stepRows}
+use Rattle.rules.specs.Step.{Step}
 
 pub record Trial : Type 0 where
   pub answers : ℕ
   pub room : ℕ
-  -- arguments left off are 0
-  pub steps : List (List ℕ)
+  -- an argument left off counts as 0
+  pub steps : List Step
   -- ordinal, number, place
   pub says : List (List ℕ)
   -- place, seller, buyer, report
@@ -26,9 +26,8 @@ written (r ∷ rs) = length r ∷ (r ++ written rs)
 
 unfoldable pub right : Trial → Bool
 right x =
-    let ss = map (filled stepWidth 0) (x .steps) in
-    let R = played (x .answers) (x .room) [] ss in
-    same (written (stepRows (x .answers) (x .room) 0 [] ss)) (written (x .says)) && same (written (replyRows R 0 R)) (written (x .reports))
+    let R = played (x .answers) (x .room) [] (x .steps) in
+    same (written (stepRows (x .answers) (x .room) 0 [] (x .steps))) (written (x .says)) && same (written (replyRows R 0 R)) (written (x .reports))
 
 -- a row of 1 to 5 numbers: a step, as its line of step text has it, and what is said of it
 abbrev one : ℕ → List ℕ
@@ -47,7 +46,7 @@ abbrev five : ℕ → ℕ → ℕ → ℕ → ℕ → List ℕ
 five k x y z w = k ∷ x ∷ y ∷ z ∷ w ∷ []
 
 -- account 3 is good
-abbrev trial : ℕ → List (List ℕ) → List (List ℕ) → List (List ℕ) → Trial
+abbrev trial : ℕ → List Step → List (List ℕ) → List (List ℕ) → Trial
 trial room steps says reports = record { answers = 8; room = room; steps = steps; says = says; reports = reports }
 
 unfoldable pub trials : List Trial
