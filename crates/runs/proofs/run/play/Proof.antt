@@ -1,14 +1,9 @@
 -- `runs::run::play` meets its promise.
-use Prim.Native.Nat.{_*_, _+_, _-_, _/_, _≤_, ℕ}
+use Prim.Native.Nat.{_*_, _-_}
 use borrow.Author.Needs.{needs}
-use lib.Dec.{eqb, leb}
-use lib.ListN.{length}
-use mathlib.Core.Bool.{true}
-use mathlib.Core.List.{List}
-use mathlib.Core.Path.{_∙_, _≡_, ap, refl, subst, sym}
+use mathlib.Core.Path.{_∙_, sym}
 use native.Mathlib.Omega.{arith}
 use Rattle.record.proofs.Cut.{part}
-use Rattle.record.specs.Table.{roomOf, whole}
 use Rattle.rules.specs.Run.{stepCount, stepWidth}
 use Rattle.runs.proofs.Played.{Going, begin, over-and-done, step-at, turn, whole-kept}
 use Rattle.runs.proofs.run.play.Statement.{statement}

@@ -7,7 +7,6 @@ use mathlib.Core.Path.{_∙_, ap, ap₂, refl, sym}
 use native.Mathlib.Omega.{arith}
 use Rattle.record.proofs.Cut.{length-cut}
 use Rattle.messages.specs.Layout.{AuthRequest, AuthResponse, Initiate, Invoice, Payment, messageWidth}
-use Rattle.messages.specs.Parts.{Message}
 use Rattle.rules.specs.Codes.{forges}
 use Rattle.rules.specs.Honest.{asked, invoiced, paid, replied, started}
 use Rattle.rules.specs.Step.{codeOf}
