@@ -9,7 +9,8 @@ use lib.Dec.{eqb, ltb}
 use lib.ListN.{getD, length, length-append, List·getD-append}
 use Rattle.messages.proofs.Chain.{last, left-of, right-of, skip}
 use Rattle.messages.specs.Tests.{all, between}
-use Rattle.steptext.specs.Text.{Text, digit0, isDigit, isNumber, mostDigits, mostNumber, noNeedless0, valueFrom, valueOf}
+use Rattle.lines.specs.Lines.{Text}
+use Rattle.steptext.specs.Text.{digit0, isDigit, isNumber, mostDigits, mostNumber, noNeedless0, valueFrom, valueOf}
 use Rattle.results.specs.Decimal.{ReadsBack, decimal, digits}
 
 -- 10 to a power

@@ -7,7 +7,8 @@ use native.Mathlib.Numerals.{add-one}
 use native.Mathlib.Omega.{arith}
 use lib.ListN.{drop, length, length-append, length-set, set, take, take-append-drop}
 use lib.Seq.{drop-at, drop-drop, length-take-le, set-split, take-at}
-use Rattle.steptext.specs.Text.{Text, digit0, mostDigits, mostNumber}
+use Rattle.lines.specs.Lines.{Text}
+use Rattle.steptext.specs.Text.{digit0, mostDigits, mostNumber}
 use Rattle.results.proofs.Digits.{decimal-longer, decimal-more, decimal-one, short}
 use Rattle.results.specs.Decimal.{decimal}
 use Rattle.results.specs.Put.{Put}

@@ -5,7 +5,7 @@ use Rattle.rules.specs.Run.{mostSteps, played, stepWidth}
 use Rattle.rules.specs.Said.{replyRows, stepRows}
 use Rattle.rules.specs.Step.{Step}
 use Rattle.steptext.specs.Read.{Reading, readText, says, tooLong, unreadable}
-use Rattle.steptext.specs.Text.{Text, lineFeed, tab}
+use Rattle.lines.specs.Lines.{Text, lineFeed, tab}
 use Rattle.results.specs.Decimal.{decimal}
 
 abbrev pub letterR : ℕ

@@ -3,7 +3,7 @@ use Prim.Native.Nat.{ℕ, _+_, _≤_}
 use mathlib.Core.List.{List, _++_}
 use mathlib.Core.Path.{_≡_}
 use lib.ListN.{drop, length, take}
-use Rattle.steptext.specs.Text.{Text}
+use Rattle.lines.specs.Lines.{Text}
 
 -- the bytes bs stand at p of the table, and r is the next place. The last two follow from the first two where there was room for `most`
 -- bytes, and bs are no more than that; callers count with them

@@ -3,7 +3,7 @@ use crate::put::CELL_WIDEST;
 use crate::put::put_byte;
 use crate::put::put_cell;
 use crate::put::put_number;
-use steptext::bytes::LINE_FEED;
+use lines::bytes::LINE_FEED;
 ghost use mathlib.Core.List.{[], _∷_};
 ghost use Prim.Native.Nat.{_+_, _≤_};
 ghost use lib.ListN.{length};

@@ -1,5 +1,5 @@
 // Bytes and numbers put into a lent table. Each function writes at a place and returns the next.
-use steptext::bytes::TAB;
+use lines::bytes::TAB;
 use steptext::numbers::MOST_DIGITS;
 ghost use mathlib.Core.List.{[], _∷_};
 ghost use Prim.Native.Nat.{_+_, _≤_};
@@ -7,7 +7,8 @@ ghost use lib.ListN.{length};
 ghost use Rattle.results.specs.Decimal.{decimal};
 ghost use Rattle.results.specs.Put.{Put};
 ghost use Rattle.results.specs.Widths.{cellWidest};
-ghost use Rattle.steptext.specs.Text.{mostDigits, tab};
+ghost use Rattle.lines.specs.Lines.{tab};
+ghost use Rattle.steptext.specs.Text.{mostDigits};
 
 // The most bytes of a number with its tab: it has at most 5 digits.
 pub const CELL_WIDEST: usize = 1 + MOST_DIGITS;

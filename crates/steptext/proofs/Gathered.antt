@@ -16,10 +16,11 @@ use Rattle.record.specs.Table.{flat, withNumbers}
 use Rattle.messages.specs.Tests.{all}
 use Rattle.rules.specs.Run.{mostSteps, stepWidth}
 use Rattle.rules.specs.Step.{Step}
-use Rattle.steptext.proofs.Parted.{line-within, lines-from}
+use Rattle.lines.proofs.Parted.{line-within, lines-from}
 use Rattle.steptext.specs.Read.{Reading, countOf, readSteps, says, stepsIn, tooLong, unreadable}
 use Rattle.steptext.specs.Says.{readAs, stepSaid, unread}
-use Rattle.steptext.specs.Text.{Text, body, isEnded, isNumber, isStepLine, lineAt, lines, parts, stepIn, valueOf}
+use Rattle.lines.specs.Lines.{Text, lineAt, lines}
+use Rattle.steptext.specs.Text.{body, isEnded, isNumber, isStepLine, parts, stepIn, valueOf}
 use Rattle.steptext.specs.Told.{Gathers, Tells}
 use Rattle.steptext.specs.declared.read.TextRead.{TextRead}
 use Rattle.steptext.specs.declared.read.TextRead.the-variants.{Says, TooLong, Unreadable}

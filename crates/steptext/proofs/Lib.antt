@@ -1,7 +1,6 @@
+pub mod Gathered
+pub mod Parts
+pub mod Said
+pub mod Sums
 pub mod Values
 pub mod Whole
-pub mod Gathered
-pub mod Held
-pub mod Parted
-pub mod Said
-pub mod Scans

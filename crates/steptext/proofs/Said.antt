@@ -13,27 +13,13 @@ use Rattle.messages.proofs.Chain.{last, left-of, skip}
 use Rattle.messages.specs.Layout.{filled}
 use Rattle.messages.specs.Tests.{all, every, same}
 use Rattle.rules.specs.Run.{stepWidth}
-use Rattle.steptext.proofs.Parted.{before-within, first-part, only-part}
+use Rattle.steptext.proofs.Parts.{first-part, only-part}
+use Rattle.lines.proofs.Parted.{before-within}
 use Rattle.steptext.proofs.Values.{fails}
 use Rattle.steptext.specs.Number.{numberIn}
 use Rattle.steptext.specs.Says.{answersSaid, numbersSaid, readAs, stepSaid, unread}
-use Rattle.steptext.specs.Text.{
-  Text,
-  answersIn,
-  answersStart,
-  before,
-  body,
-  isAnswersLine,
-  isEnded,
-  isNumber,
-  isStepLine,
-  letterA,
-  onto,
-  parts,
-  stepIn,
-  tab,
-  valueOf,
-}
+use Rattle.lines.specs.Lines.{Text, before, onto, tab}
+use Rattle.steptext.specs.Text.{answersIn, answersStart, body, isAnswersLine, isEnded, isNumber, isStepLine, letterA, parts, stepIn, valueOf}
 use Rattle.steptext.specs.declared.numbers.Number.{Number}
 use Rattle.steptext.specs.declared.numbers.Number.the-variants.{Is, Unreadable}
 use Rattle.steptext.specs.declared.says.StepSaid.{StepSaid}

@@ -10,9 +10,10 @@ use lib.ListN.{drop, drop-of-length-le, getD, length}
 use Rattle.messages.proofs.Chain.{last, skip}
 use Rattle.messages.specs.Tests.{between}
 use Rattle.messages.specs.Tests.{all, every}
-use Rattle.steptext.proofs.Scans.{Reading, split-digits}
+use Rattle.steptext.proofs.Sums.{Reading, split-digits}
 use Rattle.steptext.specs.Number.{numberIn}
-use Rattle.steptext.specs.Text.{Text, digit0, isDigit, isNumber, mostDigits, mostNumber, noNeedless0, valueFrom, valueOf}
+use Rattle.lines.specs.Lines.{Text}
+use Rattle.steptext.specs.Text.{digit0, isDigit, isNumber, mostDigits, mostNumber, noNeedless0, valueFrom, valueOf}
 use Rattle.steptext.specs.declared.numbers.Number.{Number}
 use Rattle.steptext.specs.declared.numbers.Number.the-variants.{Is, Unreadable}
 

@@ -10,7 +10,7 @@ use lib.Dec.{leb}
 use lib.ListN.{drop, length, take}
 use Rattle.record.specs.Table.{flat, withNumbers}
 use Rattle.rules.specs.Run.{mostSteps, over, stepWidth}
-use Rattle.steptext.proofs.Parted.{line-within, lines-from}
+use Rattle.lines.proofs.Parted.{line-within, lines-from}
 use Rattle.steptext.proofs.Said.{read-by, unread-by}
 use Rattle.steptext.specs.Read.{
   Reading,
@@ -24,7 +24,8 @@ use Rattle.steptext.specs.Read.{
   unreadable,
 }
 use Rattle.steptext.specs.Says.{answersSaid}
-use Rattle.steptext.specs.Text.{Text, answersIn, isAnswersLine, lineAt, lines}
+use Rattle.lines.specs.Lines.{Text, lineAt, lines}
+use Rattle.steptext.specs.Text.{answersIn, isAnswersLine}
 use Rattle.steptext.specs.Told.{Gathers, Leaves, Tells, textCount}
 use Rattle.steptext.specs.declared.numbers.Number.{Number}
 use Rattle.steptext.specs.declared.numbers.Number.the-variants.{Is, Unreadable}

@@ -1,4 +1,3 @@
-pub mod Handed
 pub mod Number
 pub mod Read
 pub mod Says

@@ -1,6 +1,7 @@
 -- The number that a text says, as the code's enum.
 use mathlib.Core.Bool.{cond}
-use Rattle.steptext.specs.Text.{Text, isNumber, valueOf}
+use Rattle.lines.specs.Lines.{Text}
+use Rattle.steptext.specs.Text.{isNumber, valueOf}
 use Rattle.steptext.specs.declared.numbers.Number.{Number}
 use Rattle.steptext.specs.declared.numbers.Number.the-variants.{Is, Unreadable}
 

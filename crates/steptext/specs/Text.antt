@@ -1,48 +1,21 @@
--- Step text on lists of bytes: the lines of a text, the numbers of a line, and which lines document 01 calls readable.
-use Prim.Native.Nat.{ℕ, suc, _*_, _+_, _-_}
+-- Step text on lists of bytes: the numbers of a line, and which lines document 01 calls readable.
+use Prim.Native.Nat.{ℕ, _*_, _+_, _-_}
 use mathlib.Core.Bool.{Bool, _&&_, _||_, cond, not}
 use mathlib.Core.List.{List, [], _∷_, map}
 use lib.Dec.{eqb, leb}
 use lib.ListN.{drop, getD, length, take}
+use Rattle.lines.specs.Lines.{Text, lineFeed, onto, tab}
 use Rattle.messages.specs.Tests.{between}
 use Rattle.messages.specs.Layout.{filled}
 use Rattle.messages.specs.Tests.{all, every, same}
 use Rattle.rules.specs.Run.{stepWidth}
 use Rattle.rules.specs.Step.{Step}
 
-abbrev pub Text : Type 0
-Text = List ℕ
-
-abbrev pub tab : ℕ
-tab = 9
-
-abbrev pub lineFeed : ℕ
-lineFeed = 10
-
 abbrev pub digit0 : ℕ
 digit0 = 48
 
 abbrev pub letterA : ℕ
 letterA = 65
-
--- how many bytes stand before the first of a kind
-abbrev pub before : ℕ → Text → ℕ
-before kind [] = 0
-before kind (x ∷ xs) = cond (eqb x kind) 0 (suc (before kind xs))
-
--- a byte more in front of the first of these texts
-abbrev pub onto : ℕ → List Text → List Text
-onto x [] = (x ∷ []) ∷ []
-onto x (t ∷ ts) = (x ∷ t) ∷ ts
-
--- the lines of a text in order, line feed and all; the last may lack it
-abbrev pub lines : Text → List Text
-lines [] = []
-lines (x ∷ xs) = cond (eqb x lineFeed) ((x ∷ []) ∷ lines xs) (onto x (lines xs))
-
--- the line that starts after so many bytes of a text; none is left where this is empty
-unfoldable pub lineAt : Text → ℕ → Text
-lineAt t at = getD (lines (drop at t)) 0 []
 
 -- the parts of a text between its tabs
 abbrev pub parts : Text → List Text

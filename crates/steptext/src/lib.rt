@@ -1,7 +1,4 @@
-// Step text: the lines of a text, the numbers of a line, and the steps that they say.
-pub mod bytes;
-pub mod lines;
+// Step text: the numbers of a line, and the steps that the lines of a text say.
 pub mod numbers;
 pub mod read;
-pub mod reader;
 pub mod says;

@@ -1,9 +1,9 @@
 // A text read into a step table. A refused text leaves the table as it was found: the steps are gathered beside it first.
 use crate::numbers::Number;
-use crate::reader::next_line;
 use crate::says::STEP_WIDTH;
 use crate::says::answers_said;
 use crate::says::step_said;
+use lines::reader::next_line;
 use record::table::copy_into;
 ghost use mathlib.Core.List.{[]};
 ghost use mathlib.Core.Path.{_≡_};
@@ -11,7 +11,7 @@ ghost use Prim.Native.Nat.{_*_, _≤_};
 ghost use lib.ListN.{drop, length};
 ghost use Rattle.rules.specs.Run.{mostSteps, stepWidth};
 ghost use Rattle.steptext.specs.Read.{readSteps, readText};
-ghost use Rattle.steptext.specs.Text.{lines};
+ghost use Rattle.lines.specs.Lines.{lines};
 ghost use Rattle.steptext.specs.Told.{Gathers, Leaves, textCount};
 
 pub const MOST_STEPS: usize = 1024;

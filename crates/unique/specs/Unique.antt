@@ -13,7 +13,7 @@ use Rattle.runs.specs.declared.run.Ran.{Ran}
 use Rattle.step.specs.Answer.{Answered}
 use Rattle.step.specs.declared.judge.Answer.{Answer}
 use Rattle.steptext.specs.Read.{Reading, readText}
-use Rattle.steptext.specs.Text.{Text}
+use Rattle.lines.specs.Lines.{Text}
 use Rattle.steptext.specs.Told.{Leaves as TextLeaves}
 use Rattle.steptext.specs.declared.read.TextRead.{TextRead}
 

@@ -7,7 +7,7 @@ use Rattle.results.proofs.Playing.{in-table, printed}
 use Rattle.results.specs.Put.{Put}
 use Rattle.results.specs.Widths.{mostPrinted}
 use Rattle.rules.specs.Run.{stepCount}
-use Rattle.steptext.specs.Text.{Text}
+use Rattle.lines.specs.Lines.{Text}
 use Rattle.results.proofs.play.play_steps.Statement.{statement}
 use Rattle.results.proofs.play.play_steps.Tie as tie
 

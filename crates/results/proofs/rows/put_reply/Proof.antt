@@ -6,7 +6,7 @@ use Rattle.results.proofs.Told.{its-line, no-line}
 use Rattle.results.proofs.Writing.{none}
 use Rattle.results.specs.Put.{Put}
 use Rattle.results.specs.Widths.{replyWidest}
-use Rattle.steptext.specs.Text.{Text}
+use Rattle.lines.specs.Lines.{Text}
 use Rattle.results.proofs.rows.put_reply.Statement.{statement}
 use Rattle.results.proofs.rows.put_reply.Tie as tie
 

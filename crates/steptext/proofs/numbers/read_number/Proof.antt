@@ -4,7 +4,7 @@ use borrow.Author.Tests.{not-false, not-true}
 use lib.ListN.{length}
 use mathlib.Core.Path.{_∙_, sym}
 use native.Mathlib.Omega.{arith}
-use Rattle.steptext.proofs.Scans.{Reading, begin, bounded, turn}
+use Rattle.steptext.proofs.Sums.{Reading, begin, bounded, turn}
 use Rattle.steptext.proofs.Values.{above, below, inside, is-number, no-digit, too-much, unreadable}
 use Rattle.steptext.specs.Text.{digit0, mostDigits}
 use Rattle.steptext.proofs.numbers.read_number.Statement.{statement}

@@ -8,7 +8,7 @@ use native.Mathlib.Omega.{arith}
 use Rattle.record.specs.Table.{withNumbers}
 use Rattle.rules.specs.Run.{stepWidth}
 use Rattle.steptext.proofs.Gathered.{Going, begin, numbers-are, over-and-done, readable-is, refused-line, refused-text, seven, turn}
-use Rattle.steptext.proofs.Parted.{line-within}
+use Rattle.lines.proofs.Parted.{line-within}
 use Rattle.steptext.proofs.read.gather.Statement.{statement}
 use Rattle.steptext.proofs.read.gather.Tie as tie
 

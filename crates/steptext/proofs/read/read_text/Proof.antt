@@ -10,7 +10,7 @@ use Rattle.rules.specs.Run.{stepWidth}
 use Rattle.steptext.proofs.Whole.{all-gathered, first-within, too-many-bytes, too-short, unread-first}
 use Rattle.steptext.specs.Read.{readSteps}
 use Rattle.steptext.specs.Says.{answersSaid}
-use Rattle.steptext.specs.Text.{lines}
+use Rattle.lines.specs.Lines.{lines}
 use Rattle.steptext.specs.Told.{Gathers}
 use Rattle.steptext.proofs.read.read_text.Statement.{statement}
 use Rattle.steptext.proofs.read.read_text.Tie as tie

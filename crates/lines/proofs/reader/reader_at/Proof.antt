@@ -1,4 +1,4 @@
--- `steptext::reader::reader_at` meets its promise.
+-- `lines::reader::reader_at` meets its promise.
 -- The text goes into the reader and is still had at the exit: what a shared slice owns is had twice.
 use mathlib.Core.Path.{refl}
 use Prim.Native.Nat.{ℕ, _<_, _^_}
@@ -28,13 +28,13 @@ use denote.Steps.{nothing, owned}
 use denote.Struct.Rest.{own-shut}
 use denote.Triple.Entry.{Vals, onEntry}
 use denote.Triple.Walked.{ends-at, says, walkOf, walked}
-use Rattle.steptext.proofs.Held.{Bytes, D, L, promised, slice, stay, stay-goes}
-use Rattle.steptext.proofs.reader.Reader.Laws as T′
-use Rattle.steptext.proofs.reader.reader_at as reader-at
-use Rattle.steptext.proofs.reader.reader_at.Code as code
-use Rattle.steptext.proofs.reader.reader_at.Key.{name as #reader-at}
-use Rattle.steptext.proofs.reader.reader_at.Statement as stated
-use Rattle.steptext.specs.declared.reader.Reader.{Reader}
+use Rattle.lines.proofs.Held.{Bytes, D, L, promised, slice, stay, stay-goes}
+use Rattle.lines.proofs.reader.Reader.Laws as T′
+use Rattle.lines.proofs.reader.reader_at as reader-at
+use Rattle.lines.proofs.reader.reader_at.Code as code
+use Rattle.lines.proofs.reader.reader_at.Key.{name as #reader-at}
+use Rattle.lines.proofs.reader.reader_at.Statement as stated
+use Rattle.lines.specs.declared.reader.Reader.{Reader}
 
 module _ {M : Type 1} (𝓤 : URA M) (H : Heap 𝓤) (A : Atoms 𝓤) (W : Given 𝓤 H A) (mem : Memory → SProp 𝓤) (run : Routine → Fun 𝓤) (κ : Lft) (q : Share) (text : RefT (List ℕ)) (n : ℕ) (ok : n < 2 ^ 64) where
   abbrev α : NamedLft

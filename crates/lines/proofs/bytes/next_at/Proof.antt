@@ -1,12 +1,12 @@
--- `steptext::bytes::next_at` meets its promise.
+-- `lines::bytes::next_at` meets its promise.
 use Prim.Native.Nat.{_+_, _-_, _≤_}
 use lib.ListN.{drop, length}
 use mathlib.Core.Path.{_≡_, refl}
 use native.Mathlib.Omega.{arith}
-use Rattle.steptext.proofs.Scans.{stands-here, stands-later, stands-nowhere}
-use Rattle.steptext.specs.Text.{before}
-use Rattle.steptext.proofs.bytes.next_at.Statement.{statement}
-use Rattle.steptext.proofs.bytes.next_at.Tie as tie
+use Rattle.lines.proofs.Scans.{stands-here, stands-later, stands-nowhere}
+use Rattle.lines.specs.Lines.{before}
+use Rattle.lines.proofs.bytes.next_at.Statement.{statement}
+use Rattle.lines.proofs.bytes.next_at.Tie as tie
 
 abbrev Inv-loop : tie.InvT-loop
 Inv-loop text from kind at₀ at =

@@ -1,8 +1,8 @@
 // The reader: it holds the text it was lent and a position, and hands over the next line, line feed and all.
 use crate::lines::line_at;
 ghost use mathlib.Core.Path.{_≡_};
-ghost use Rattle.steptext.specs.Handed.{behindNext, nextOf};
-ghost use Rattle.steptext.specs.Text.{lineAt};
+ghost use Rattle.lines.specs.Handed.{behindNext, nextOf};
+ghost use Rattle.lines.specs.Lines.{lineAt};
 
 pub struct Reader<'a> {
     pub text: &'a [u8],

@@ -2,7 +2,7 @@
 ghost use mathlib.Core.Path.{_≡_};
 ghost use Prim.Native.Nat.{_+_, _≤_};
 ghost use lib.ListN.{drop, length};
-ghost use Rattle.steptext.specs.Text.{before};
+ghost use Rattle.lines.specs.Lines.{before};
 
 pub const TAB: u8 = b'\t';
 

@@ -2,8 +2,8 @@
 use Prim.Native.Nat.{_+_}
 use denote.Ref.{now}
 use lib.ListN.{length}
-use Rattle.steptext.specs.Text.{Text, lineAt}
-use Rattle.steptext.specs.declared.reader.Reader.{Reader}
+use Rattle.lines.specs.Lines.{Text, lineAt}
+use Rattle.lines.specs.declared.reader.Reader.{Reader}
 
 abbrev pub nextOf : Reader → Text
 nextOf r = lineAt (now (r .text)) (r .at)

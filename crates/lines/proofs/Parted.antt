@@ -1,4 +1,4 @@
--- A text parted: its first line and those after it, its first part and those after it.
+-- A text parted into lines: its first line and those after it, and the line at a position.
 use mathlib.Core.Bool.{Bool, true, false, cond}
 use mathlib.Core.List.{List, [], _∷_, _++_}
 use mathlib.Core.Path.{_≡_, _∙_, refl, sym, ap, ap₂, subst}
@@ -9,7 +9,7 @@ use native.Mathlib.Omega.{arith}
 use lib.Dec.{eqb, leb}
 use lib.ListN.{drop, drop-of-length-le, getD, length, length-drop, length-take, take}
 use lib.Seq.{drop-drop, drop-length, take-all, take-nil}
-use Rattle.steptext.specs.Text.{Text, before, lineAt, lineFeed, lines, onto, parts, tab}
+use Rattle.lines.specs.Lines.{Text, before, lineAt, lineFeed, lines, onto}
 
 -- each law goes by whether the first byte is of the kind
 
@@ -37,28 +37,6 @@ pub first-line : (t : Text) → 1 ≤ length t → lines t ≡ take (suc (before
 first-line [] h = absurd (omega arith)
 first-line (x ∷ []) h = only-by (eqb x lineFeed) x
 first-line (x ∷ y ∷ ys) h = first-by (eqb x lineFeed) x (y ∷ ys) (first-line (y ∷ ys) (omega arith))
-
-more-by : (b : Bool) (x : ℕ) (xs : Text) → let n = before tab xs in let k = cond b 0 (suc n) in
-    (n < length xs → parts xs ≡ take n xs ∷ parts (drop (suc n) xs))
-    → k < suc (length xs)
-    → cond b ([] ∷ parts xs) (onto x (parts xs)) ≡ take k (x ∷ xs) ∷ parts (drop (suc k) (x ∷ xs))
-more-by true x xs e h = refl
-more-by false x xs e h = ap (onto x) (e (omega arith))
-
--- a text with a tab has a first part, and parts after the tab
-pub first-part : (t : Text) → before tab t < length t → parts t ≡ take (before tab t) t ∷ parts (drop (suc (before tab t)) t)
-first-part [] h = absurd (omega arith)
-first-part (x ∷ xs) h = more-by (eqb x tab) x xs (first-part xs) h
-
-last-by : (b : Bool) (x : ℕ) (xs : Text) → (before tab xs ≡ length xs → parts xs ≡ xs ∷ [])
-    → cond b 0 (suc (before tab xs)) ≡ suc (length xs) → cond b ([] ∷ parts xs) (onto x (parts xs)) ≡ (x ∷ xs) ∷ []
-last-by true x xs e h = absurd (omega arith)
-last-by false x xs e h = ap (onto x) (e (omega arith))
-
--- one without a tab is one part
-pub only-part : (t : Text) → before tab t ≡ length t → parts t ≡ t ∷ []
-only-part [] h = refl
-only-part (x ∷ xs) h = last-by (eqb x tab) x xs (only-part xs) h
 
 -- the line at a position, and the lines after it
 

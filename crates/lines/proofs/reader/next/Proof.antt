@@ -1,4 +1,4 @@
--- `steptext::reader::next` meets its promise.
+-- `lines::reader::next` meets its promise.
 -- The borrow of the reader is opened, `line_at` is called on its text, the position moves behind the line, and the borrow is closed.
 use mathlib.Core.Path.{_≡_, ap, refl}
 use Prim.Native.Nat.{ℕ, _+_, _<_, _^_}
@@ -41,20 +41,20 @@ use denote.Triple.Entry.{Vals, onEntry}
 use denote.Triple.Spec.{tripleOf}
 use denote.Triple.Table.{cited}
 use denote.Triple.Walked.{Stays, ends-at, goes-ref, says, stay-ref, walkOf, walked}
-use Rattle.steptext.proofs.Held.{Bytes, D, L, Own, R, at-fits, calls-framed, fields, promised, slice, text-fits, text-lent}
-use Rattle.steptext.proofs.Parted.{behind-fits}
-use Rattle.steptext.proofs.lines.line_at as line
-use Rattle.steptext.proofs.lines.line_at.Met as line-thm
-use Rattle.steptext.proofs.lines.line_at.Symbol as line-def
-use Rattle.steptext.proofs.lines.line_at.Symbol.{name as #line-at}
-use Rattle.steptext.proofs.reader.Reader.Laws as T′
-use Rattle.steptext.proofs.reader.next as next
-use Rattle.steptext.proofs.reader.next.Code as code
-use Rattle.steptext.proofs.reader.next.Key.{name as #next}
-use Rattle.steptext.proofs.reader.next.Statement as stated
-use Rattle.steptext.specs.Handed.{nextOf}
-use Rattle.steptext.specs.Text.{Text}
-use Rattle.steptext.specs.declared.reader.Reader.{Reader}
+use Rattle.lines.proofs.Held.{Bytes, D, L, Own, R, at-fits, calls-framed, fields, promised, slice, text-fits, text-lent}
+use Rattle.lines.proofs.Parted.{behind-fits}
+use Rattle.lines.proofs.lines.line_at as line
+use Rattle.lines.proofs.lines.line_at.Met as line-thm
+use Rattle.lines.proofs.lines.line_at.Symbol as line-def
+use Rattle.lines.proofs.lines.line_at.Symbol.{name as #line-at}
+use Rattle.lines.proofs.reader.Reader.Laws as T′
+use Rattle.lines.proofs.reader.next as next
+use Rattle.lines.proofs.reader.next.Code as code
+use Rattle.lines.proofs.reader.next.Key.{name as #next}
+use Rattle.lines.proofs.reader.next.Statement as stated
+use Rattle.lines.specs.Handed.{nextOf}
+use Rattle.lines.specs.Lines.{Text}
+use Rattle.lines.specs.declared.reader.Reader.{Reader}
 
 -- the reader behind the `&mut`, whose text is lent for the second of the two lifetimes
 abbrev behind : Slot 2
@@ -155,7 +155,7 @@ next-spec 𝓤 H 𝓜 𝓖 𝓡 =
     let W = givenOf 𝓤 H 𝓜 𝓖 in
     let 𝓣 = tables 𝓤 H 𝓜 𝓡 code.env in
     let c = next.clauses 𝓤 H A (𝓜 .mem) (𝓡 .run) in
-    let known = cited 𝓤 H (LineAt 𝓤 H A (𝓜 .mem) (𝓡 .run)) 𝓜 𝓡 code.env #line-at line-def.routine code.calls-steptext·lines·line-at (line-thm.met 𝓤 H 𝓜 𝓖 𝓡) in
+    let known = cited 𝓤 H (LineAt 𝓤 H A (𝓜 .mem) (𝓡 .run)) 𝓜 𝓡 code.env #line-at line-def.routine code.calls-lines·lines·line-at (line-thm.met 𝓤 H 𝓜 𝓖 𝓡) in
     promised 𝓤 H 𝓜 𝓖 𝓡 code.env next.ended stayed (goes-ref 𝓤 H A W 2 0 tt behind, tt) c #next code.function (code.unfolded 𝓤 H 𝓜 𝓡)
     (walked 𝓤 H A next.ended stayed c (WpFn 𝓤 H (𝓣 .C) (𝓣 .Λ) code.function) (λ κs. (ptr-vals, tt)) (λ κs. (mut-tells (named 0) (κs .0) (R (namedLft 2 1 tt κs)), tt))
     (λ κs qs bounds a g are. via 𝓤 _ (fst∗ 𝓤 _ (emp 𝓤)) (walk 𝓤 H A W (𝓜 .mem) (𝓡 .run) (κs .0) (κs .1 .0) (qs .0) (qs .1 .0) bounds (a .0 .ptr .0) (a .0 .ptr .1) (a .0 .name) (a .0 .now) (𝓣 .C) (𝓣 .Λ) (calls-framed 𝓤 H 𝓜 𝓖 𝓡 code.env) known)))

@@ -1,4 +1,4 @@
--- `steptext::reader::next_line` meets its promise.
+-- `lines::reader::next_line` meets its promise.
 -- A reader is made and put into a local, and the local is lent to `next`. It is lent for a lifetime ν of its own within the text's: once ν is ended, the local is had back and can be freed.
 use mathlib.Core.Path.{_≡_, _∙_, ap, refl}
 use Prim.Native.Nat.{ℕ, _<_, _^_}
@@ -41,23 +41,23 @@ use denote.Triple.Entry.{Vals, onEntry}
 use denote.Triple.Spec.{tripleOf}
 use denote.Triple.Table.{cited}
 use denote.Triple.Walked.{ends-at, says, walkOf, walked}
-use Rattle.steptext.proofs.Held.{Bytes, D, L, R, calls-framed, had-back, promised, put-in, slice, stay, stay-goes}
-use Rattle.steptext.proofs.reader.Reader.Laws as T′
-use Rattle.steptext.proofs.reader.next as next
-use Rattle.steptext.proofs.reader.next.Met as next-thm
-use Rattle.steptext.proofs.reader.next.Symbol as next-def
-use Rattle.steptext.proofs.reader.next.Symbol.{name as #next}
-use Rattle.steptext.proofs.reader.next_line as next-line
-use Rattle.steptext.proofs.reader.next_line.Code as code
-use Rattle.steptext.proofs.reader.next_line.Key.{name as #next-line}
-use Rattle.steptext.proofs.reader.next_line.Statement as stated
-use Rattle.steptext.proofs.reader.reader_at as reader-at
-use Rattle.steptext.proofs.reader.reader_at.Met as reader-at-thm
-use Rattle.steptext.proofs.reader.reader_at.Symbol as reader-at-def
-use Rattle.steptext.proofs.reader.reader_at.Symbol.{name as #reader-at}
-use Rattle.steptext.specs.Handed.{behindNext, nextOf}
-use Rattle.steptext.specs.Text.{lineAt}
-use Rattle.steptext.specs.declared.reader.Reader.{Reader}
+use Rattle.lines.proofs.Held.{Bytes, D, L, R, calls-framed, had-back, promised, put-in, slice, stay, stay-goes}
+use Rattle.lines.proofs.reader.Reader.Laws as T′
+use Rattle.lines.proofs.reader.next as next
+use Rattle.lines.proofs.reader.next.Met as next-thm
+use Rattle.lines.proofs.reader.next.Symbol as next-def
+use Rattle.lines.proofs.reader.next.Symbol.{name as #next}
+use Rattle.lines.proofs.reader.next_line as next-line
+use Rattle.lines.proofs.reader.next_line.Code as code
+use Rattle.lines.proofs.reader.next_line.Key.{name as #next-line}
+use Rattle.lines.proofs.reader.next_line.Statement as stated
+use Rattle.lines.proofs.reader.reader_at as reader-at
+use Rattle.lines.proofs.reader.reader_at.Met as reader-at-thm
+use Rattle.lines.proofs.reader.reader_at.Symbol as reader-at-def
+use Rattle.lines.proofs.reader.reader_at.Symbol.{name as #reader-at}
+use Rattle.lines.specs.Handed.{behindNext, nextOf}
+use Rattle.lines.specs.Lines.{lineAt}
+use Rattle.lines.specs.declared.reader.Reader.{Reader}
 
 -- what `reader_at` promises of the reader it makes, and `next` of a reader, its line and the reader afterwards
 abbrev Made : RefT (List ℕ) → ℕ → Reader → Type 0
@@ -167,8 +167,8 @@ next-line-spec 𝓤 H 𝓜 𝓖 𝓡 =
     let W = givenOf 𝓤 H 𝓜 𝓖 in
     let 𝓣 = tables 𝓤 H 𝓜 𝓡 code.env in
     let c = next-line.clauses 𝓤 H A (𝓜 .mem) (𝓡 .run) in
-    let known-reader-at = cited 𝓤 H (ReaderAt 𝓤 H A (𝓜 .mem) (𝓡 .run)) 𝓜 𝓡 code.env #reader-at reader-at-def.routine code.calls-steptext·reader·reader-at (reader-at-thm.met 𝓤 H 𝓜 𝓖 𝓡) in
-    let known-next = cited 𝓤 H (Next 𝓤 H A (𝓜 .mem) (𝓡 .run)) 𝓜 𝓡 code.env #next next-def.routine code.calls-steptext·reader·next (next-thm.met 𝓤 H 𝓜 𝓖 𝓡) in
+    let known-reader-at = cited 𝓤 H (ReaderAt 𝓤 H A (𝓜 .mem) (𝓡 .run)) 𝓜 𝓡 code.env #reader-at reader-at-def.routine code.calls-lines·reader·reader-at (reader-at-thm.met 𝓤 H 𝓜 𝓖 𝓡) in
+    let known-next = cited 𝓤 H (Next 𝓤 H A (𝓜 .mem) (𝓡 .run)) 𝓜 𝓡 code.env #next next-def.routine code.calls-lines·reader·next (next-thm.met 𝓤 H 𝓜 𝓖 𝓡) in
     promised 𝓤 H 𝓜 𝓖 𝓡 code.env next-line.ended stay (stay-goes 𝓤 H A W) c #next-line code.function (code.unfolded 𝓤 H 𝓜 𝓡)
     (walked 𝓤 H A next-line.ended stay c (WpFn 𝓤 H (𝓣 .C) (𝓣 .Λ) code.function) (λ κs. (slice-vals, (uint-vals w64, tt))) (λ κs. (shr-slice-tells (named 0) (κs .0) u8, (uint-tells w64, tt)))
     (λ κs qs bounds a g are. via 𝓤 _ (fst∗ 𝓤 _ (emp 𝓤)) (walk 𝓤 H A W (𝓜 .mem) (𝓡 .run) (κs .0) (qs .0) (a .0) (a .1 .0) (are .1 .0 .1) (𝓣 .C) (𝓣 .Λ) (calls-framed 𝓤 H 𝓜 𝓖 𝓡 code.env) known-reader-at known-next (are .0))))

@@ -55,9 +55,9 @@ use types.Kit.{
   ⋆,
   ‵,
 }
-use Rattle.steptext.proofs.reader.Reader as T
-use Rattle.steptext.proofs.reader.Reader.Laws as T′
-use Rattle.steptext.specs.declared.reader.Reader.{Reader}
+use Rattle.lines.proofs.reader.Reader as T
+use Rattle.lines.proofs.reader.Reader.Laws as T′
+use Rattle.lines.specs.declared.reader.Reader.{Reader}
 
 -- the step to the promise, over the tables of the function's own environment
 module _ {M : Type 1} (𝓤 : URA M) (H : Heap 𝓤) (𝓜 : Model 𝓤 H) (𝓖 : GhostRules 𝓤 H) (𝓡 : Running 𝓤 H 𝓜) (env : Env) where

@@ -2,7 +2,7 @@
 use crate::bytes::LINE_FEED;
 use crate::bytes::next_at;
 ghost use mathlib.Core.Path.{_≡_};
-ghost use Rattle.steptext.specs.Text.{lineAt};
+ghost use Rattle.lines.specs.Lines.{lineAt};
 
 // The line that starts at a position; nothing past the end.
 pub fn line_at(text: &[u8], at: usize) -> &[u8]

@@ -1,4 +1,4 @@
--- Loops over the bytes of a text: where the next byte of a kind stands, and what the digits of a number come to.
+-- The digits of a number, one by one, and what they come to.
 use mathlib.Core.Bool.{Bool, true, false, _&&_}
 use mathlib.Core.List.{List, [], _∷_, _++_}
 use mathlib.Core.Path.{_≡_, _∙_, refl, sym, ap, subst}
@@ -11,23 +11,10 @@ use lib.Dec.{eqb, leb}
 use lib.ListN.{drop, drop-of-length-le, getD, length}
 use lib.Seq.{drop-cons}
 use Rattle.messages.proofs.Chain.{right-of, skip}
-use Rattle.messages.specs.Tests.{between}
-use Rattle.messages.specs.Tests.{all}
-use Rattle.steptext.specs.Text.{Text, before, digit0, isDigit, valueFrom, valueOf}
-
--- the byte at a position is the first of what follows it
-pub from : (t : Text) (i : ℕ) → i < length t → drop i t ≡ getD t i 0 ∷ drop (i + 1) t
-from t i h = drop-cons t i 0 h ∙ ap (λ (k : ℕ). getD t i 0 ∷ drop k t) (sym (add-one i))
-
-pub stands-here : (kind : ℕ) (t : Text) (i : ℕ) → i < length t → getD t i 0 ≡ kind → before kind (drop i t) ≡ 0
-stands-here kind t i h e = ap (before kind) (from t i h) ∙ simp (eq-eqb _ _ e)
-
-pub stands-later : (kind : ℕ) (t : Text) (i : ℕ) → i < length t → (getD t i 0 ≡ kind → ⊥)
-    → before kind (drop i t) ≡ suc (before kind (drop (i + 1) t))
-stands-later kind t i h e = ap (before kind) (from t i h) ∙ simp (ne-eqb _ _ e)
-
-pub stands-nowhere : (kind : ℕ) (t : Text) (i : ℕ) → length t ≤ i → before kind (drop i t) ≡ 0
-stands-nowhere kind t i h = ap (before kind) (drop-of-length-le t {i = i} h)
+use Rattle.lines.proofs.Scans.{from}
+use Rattle.messages.specs.Tests.{all, between}
+use Rattle.lines.specs.Lines.{Text, before}
+use Rattle.steptext.specs.Text.{digit0, isDigit, valueFrom, valueOf}
 
 -- some digits are read, of which the sum has come
 pub record Reading (xs : Text) (sum i : ℕ) : Type 0 where

@@ -1,10 +1,10 @@
--- `steptext::lines::line_at` meets its promise.
+-- `lines::lines::line_at` meets its promise.
 use borrow.Author.Needs.{needs}
 use mathlib.Core.Path.{_∙_, sym}
 use native.Mathlib.Omega.{arith}
-use Rattle.steptext.proofs.Parted.{last-line, line-to, no-line}
-use Rattle.steptext.proofs.lines.line_at.Statement.{statement}
-use Rattle.steptext.proofs.lines.line_at.Tie as tie
+use Rattle.lines.proofs.Parted.{last-line, line-to, no-line}
+use Rattle.lines.proofs.lines.line_at.Statement.{statement}
+use Rattle.lines.proofs.lines.line_at.Tie as tie
 
 returns : tie.Need-returns
 returns c =
