@@ -1,22 +1,21 @@
 -- The refusals of arguments: a letter tells its argument, the fault of one argument by its sort, and the step's as the lowest of the six.
 use mathlib.Core.Bool.{Bool, true, false, _&&_, _||_, cond}
-use mathlib.Core.List.{List, [], _∷_}
+use mathlib.Core.List.{List}
 use mathlib.Core.Path.{_≡_, _∙_, refl, sym, ap, ap₂, subst}
 use Prim.Native.Nat.{ℕ, suc, _+_, _≤_, _<_, min, zero-le}
 use native.Mathlib.Nat.{le-of-eq}
 use native.Mathlib.Numerals.{add-one}
 use native.Mathlib.Omega.{arith}
 use borrow.Author.Tests.{le-leb, ne-eqb}
-use lib.Dec.{eqb, leb}
+use lib.Dec.{leb}
 use lib.ListN.{drop, drop-of-length-le, getD, length}
 use lib.Seq.{drop-cons}
 use Rattle.messages.specs.Layout.{AuthRequest, AuthResponse, Initiate, Invoice, Payment}
 use Rattle.record.specs.Table.{Record, messageAt}
 use Rattle.rules.specs.Codes.{Argument, Item, letter, rowOf}
-use Rattle.rules.specs.Gates.{_unless_, through}
 use Rattle.rules.specs.Items.{eachArgument, holding, inRange, placed, readable}
 use Rattle.rules.specs.Step.{argumentsOf, codeOf}
-use Rattle.arguments.specs.Faults.{faultOf, faults, fine, itself, placeFault}
+use Rattle.arguments.specs.Faults.{faultOf, faults, fine, placeFault}
 use Rattle.arguments.specs.Letters.{argumentLettered}
 use Rattle.arguments.specs.Ready.{Known}
 use Rattle.arguments.proofs.Takes.{argument-at, six, six-arguments}

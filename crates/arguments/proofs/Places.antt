@@ -1,5 +1,5 @@
 -- The places that a ready step names are places of the table, and what is ready for a record is ready for its whole table.
-use mathlib.Core.Bool.{Bool, true, _&&_}
+use mathlib.Core.Bool.{true}
 use mathlib.Core.List.{List, [], _∷_}
 use mathlib.Core.Path.{_≡_, refl, subst, sym}
 use Prim.Native.Nat.{ℕ, _*_, _≤_}

@@ -20,7 +20,6 @@ use Rattle.rules.specs.Step.{argumentsOf, codeOf}
 use Rattle.arguments.specs.Given.{foundIn}
 use Rattle.arguments.specs.Lent.{rowLetters, tableLetters}
 use Rattle.arguments.specs.Ready.{Known}
-use Rattle.arguments.specs.declared.given.Given.{Given}
 use Rattle.arguments.specs.declared.given.Given.the-variants.{At, Nothing}
 
 abbrev takesOf : Row → List Argument

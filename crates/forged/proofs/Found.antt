@@ -1,10 +1,9 @@
 -- What the search of a step's row found: the item is given, its place is in 1..n, and what is read from the message there is what the
 -- definitions name; or it is not given, and what was built stands.
-use mathlib.Core.Bool.{Bool, true, false, _&&_, _||_, cond, true≢false}
+use mathlib.Core.Bool.{Bool, true, false, _||_, cond, true≢false}
 use mathlib.Core.List.{List, [], _∷_}
 use mathlib.Core.Path.{_≡_, _∙_, refl, sym, ap, subst}
-use Prim.Native.Nat.{ℕ, suc, _*_, _≤_}
-use native.Mathlib.Nat.{mul-le-mul-right, le-trans}
+use Prim.Native.Nat.{ℕ, _*_, _≤_}
 use native.Mathlib.Omega.{arith}
 use borrow.Author.Tests.{eq-eqb, eqb-true, leb-true, ne-eqb}
 use lib.Dec.{eqb, leb}
@@ -24,9 +23,8 @@ use Rattle.arguments.proofs.Places.{in-table}
 use Rattle.messages.proofs.Picks.{no, yes}
 use Rattle.arguments.proofs.Takes.{six, six-arguments}
 use Rattle.arguments.specs.Given.{foundIn}
-use Rattle.arguments.specs.Letters.{argumentLettered}
 use Rattle.forged.specs.Outside.{Offers, accountIn, itemIn, numberIn, takenBy}
-use Rattle.arguments.specs.Ready.{Known, Ready}
+use Rattle.arguments.specs.Ready.{Ready}
 use Rattle.arguments.specs.declared.given.Given.{Given}
 use Rattle.arguments.specs.declared.given.Given.the-variants.{At, Nothing}
 

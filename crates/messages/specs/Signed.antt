@@ -1,7 +1,7 @@
 -- The four signatures, as document 01 lays them out: their widths, how each is read at a position of a message (`..At`), and
 -- its numbers in order (`..Numbers`).
 use Prim.Native.Nat.{ℕ, _+_}
-use mathlib.Core.List.{List, [], _∷_, _++_}
+use mathlib.Core.List.{List, _∷_, _++_}
 use lib.ListN.{getD}
 use Rattle.messages.specs.Parts.{
   Message,

@@ -2,17 +2,16 @@
 use mathlib.Core.Bool.{Bool, true, false, cond}
 use mathlib.Core.List.{List}
 use mathlib.Core.Path.{_≡_, _∙_, refl, sym, ap, ap₂}
-use Prim.Native.Nat.{ℕ, _-_, _≤_, zero-le}
+use Prim.Native.Nat.{ℕ, _-_, _≤_}
 use native.Mathlib.Omega.{arith}
 use borrow.Author.Tests.{leb-true}
 use lib.Dec.{leb}
 use Rattle.messages.proofs.Chain.{right-of}
 use Rattle.messages.proofs.Picks.{no, yes}
 use Rattle.messages.specs.Tests.{between}
-use Rattle.messages.specs.declared.parts.Mark.{Mark}
 use Rattle.messages.specs.declared.parts.Place.{Place}
 use Rattle.record.proofs.Cut.{take-messages}
-use Rattle.record.specs.Table.{Record, lawfulRecord, messageAt, messages}
+use Rattle.record.specs.Table.{lawfulRecord, messageAt, messages}
 use Rattle.reports.specs.ReplyAt.{ReplyAt}
 use Rattle.reports.specs.declared.report.Reply.{Reply}
 use Rattle.rules.specs.Report.{houseReply, report, reportAt, reportOn}

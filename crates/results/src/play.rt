@@ -1,7 +1,7 @@
 // A text played on a lent record, with its results in lent bytes: all that the program does between reading and writing.
-use crate::lines::REPLY_WIDEST;
-use crate::lines::STEP_WIDEST;
-use crate::lines::put_refused_line;
+use crate::printed::REPLY_WIDEST;
+use crate::printed::STEP_WIDEST;
+use crate::printed::put_refused_line;
 use crate::rows::put_results;
 use messages::layout::MESSAGE_WIDTH;
 use record::table::MOST_ROOM;

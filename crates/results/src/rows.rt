@@ -1,6 +1,6 @@
 // The lines of a list that was played: a line for each step, then, by place, a line for each house reply.
-use crate::lines::put_reply_line;
-use crate::lines::put_step_line;
+use crate::printed::put_reply_line;
+use crate::printed::put_step_line;
 use messages::layout::REPLY_SIGNED;
 use messages::parts::Place;
 use messages::signed::reply_signed_at;

@@ -1,9 +1,9 @@
 -- A run from within: one step's answer as what it leaves, and the state after some steps, of which finishing gives what the whole run gives.
-use mathlib.Core.Bool.{Bool, true, _&&_}
-use mathlib.Core.List.{List, [], _∷_, _++_, append-assoc}
+use mathlib.Core.Bool.{true, _&&_}
+use mathlib.Core.List.{List, [], _∷_, _++_}
 use mathlib.Core.Path.{_≡_, _∙_, refl, sym, ap, ap₂, subst}
 use Prim.Native.Nat.{ℕ, zero, suc, _+_, _*_, _-_, _/_, _%_, _≤_, _<_}
-use native.Mathlib.Nat.{add-comm, add-zero, le-of-eq, suc-mul, zero-add, zero-mul}
+use native.Mathlib.Nat.{add-comm, add-zero, le-of-eq, suc-mul, zero-add}
 use native.Mathlib.Numerals.{add-one}
 use native.Mathlib.Omega.{arith}
 use lib.ListN.{drop, drop-of-length-le, getD, length, length-append, length-drop, length-set, set, take, take-append-drop}
@@ -12,13 +12,12 @@ use Rattle.record.proofs.Cut.{cut-at, length-cut, messages-with}
 use Rattle.messages.specs.Layout.{messageWidth}
 use Rattle.messages.specs.Parts.{Message}
 use lib.Dec.{eqb, leb}
-use Rattle.record.specs.Table.{Record, cut, flat, messages, mostRoom, roomOf, whole, withMessage}
+use Rattle.record.specs.Table.{Record, flat, messages, mostRoom, roomOf, whole, withMessage}
 use Rattle.rules.specs.Run.{over, played, stepCount, stepWidth, stepsOf, verdicts}
-use Rattle.rules.specs.Step.{Outcome, Step, accepted, judge, numberOf, recordAfter, refused, tableAfter}
-use Rattle.runs.specs.Ran.{OnePlayed, Plays, countAfter}
+use Rattle.rules.specs.Step.{Outcome, Step, accepted, judge, numberOf, recordAfter, refused}
+use Rattle.runs.specs.Ran.{OnePlayed, Plays}
 use Rattle.step.proofs.Outcomes.{had-room}
 use Rattle.step.specs.Answer.{Answered}
-use Rattle.step.specs.declared.judge.Answer.{Answer}
 use Rattle.step.specs.declared.judge.Answer.the-variants.{Accepted, Refused}
 use Rattle.messages.specs.declared.parts.Place.{Place}
 

@@ -1,13 +1,13 @@
 -- The refusals of a run, in their order, and a run that is not refused.
-use mathlib.Core.Bool.{Bool, true, false, not}
-use mathlib.Core.List.{List, []}
-use mathlib.Core.Path.{_≡_, _∙_, refl, sym, subst}
+use mathlib.Core.Bool.{true, false, not}
+use mathlib.Core.List.{List}
+use mathlib.Core.Path.{_≡_, refl, sym, subst}
 use Prim.Native.Nat.{ℕ, zero-le}
 use native.Mathlib.Omega.{arith}
 use lib.Dec.{eqb, leb}
 use lib.ListN.{length}
-use Rattle.record.specs.Table.{flat, roomOf, whole}
-use Rattle.rules.specs.Run.{Ran as RanOf, over, played, run, stepCount, stepsOf, verdicts, wholeSteps}
+use Rattle.record.specs.Table.{whole}
+use Rattle.rules.specs.Run.{Ran as RanOf, run, stepCount, wholeSteps}
 use Rattle.runs.specs.Ran.{Leaves, Plays}
 use Rattle.runs.specs.declared.run.Ran.the-variants.{Messages, Refused}
 use Rattle.record.proofs.Whole.{most}

@@ -1,18 +1,16 @@
 -- What the code of a step found, put together to the step's outcome, gate by gate.
-use mathlib.Core.Bool.{Bool, true, false, _&&_, cond}
-use mathlib.Core.List.{List, [], _∷_, _++_}
+use mathlib.Core.Bool.{Bool, true, false, cond}
+use mathlib.Core.List.{List}
 use mathlib.Core.Path.{_≡_, _∙_, refl, sym, ap, subst}
-use Prim.Native.Nat.{ℕ, _+_, _*_, _%_, _≤_, _<_, zero-le}
+use Prim.Native.Nat.{ℕ, _+_, _*_, _≤_, _<_, zero-le}
 use native.Mathlib.Omega.{arith}
-use borrow.Author.Tests.{leb-true, ltb-true}
-use lib.Dec.{eqb, leb, ltb}
+use borrow.Author.Tests.{ltb-true}
+use lib.Dec.{ltb}
 use lib.ListN.{length}
-use Rattle.messages.proofs.Chain.{left-of, right-of}
 use Rattle.record.proofs.Cut.{length-cut}
 use Rattle.messages.specs.Layout.{messageWidth}
 use Rattle.messages.specs.Parts.{Message}
-use Rattle.record.specs.Lawful.{lawful}
-use Rattle.record.specs.Table.{lawfulRecord, messages, mostRoom, roomOf, whole, withMessage}
+use Rattle.record.specs.Table.{lawfulRecord, messages, mostRoom, roomOf, withMessage}
 use Rattle.messages.specs.Tests.{all}
 use Rattle.rules.specs.Codes.{known, rowOf}
 use Rattle.rules.specs.Honest.{holds}
@@ -24,7 +22,6 @@ use Rattle.step.specs.Answer.{Answered}
 use Rattle.step.specs.Coded.{addedIn, allowedIn}
 use Rattle.arguments.specs.Faults.{faults}
 use Rattle.arguments.specs.Ready.{Known, Ready}
-use Rattle.step.specs.declared.judge.Answer.{Answer}
 use Rattle.step.specs.declared.judge.Answer.the-variants.{Accepted, Refused}
 
 -- the answer by the outcome

@@ -1,13 +1,11 @@
 -- The lines after line 1, one by one: what is gathered so far, and what the rest of the text makes of it.
 use mathlib.Core.Bool.{Bool, true, false, _&&_, cond}
 use mathlib.Core.List.{List, [], _∷_, _++_, append-assoc, append-nil, map}
-use mathlib.Core.Path.{_≡_, _∙_, refl, sym, ap, ap₂, subst}
-use Prim.Native.Nat.{ℕ, zero, suc, _+_, _*_, _-_, _≤_, _<_}
+use mathlib.Core.Path.{_≡_, _∙_, refl, sym, ap, subst}
+use Prim.Native.Nat.{ℕ, _+_, _*_, _-_, _≤_, _<_}
 use borrow.Author.Tests.{le-ltb, leb-true, lt-ltb}
-use native.Mathlib.Nat.{add-comm, suc-mul}
-use native.Mathlib.Numerals.{add-one}
 use native.Mathlib.Omega.{arith}
-use lib.Dec.{leb, ltb}
+use lib.Dec.{leb}
 use lib.ListN.{drop, drop-of-length-le, length, length-append, length-map, length-replicate, replicate, take}
 use lib.Seq.{length-take-le, take-at}
 use Rattle.messages.proofs.Chain.{left-of, right-of}
@@ -17,12 +15,11 @@ use Rattle.messages.specs.Tests.{all}
 use Rattle.rules.specs.Run.{mostSteps, stepWidth}
 use Rattle.rules.specs.Step.{Step}
 use Rattle.lines.proofs.Parted.{line-within, lines-from}
-use Rattle.steptext.specs.Read.{Reading, countOf, readSteps, says, stepsIn, tooLong, unreadable}
+use Rattle.steptext.specs.Read.{Reading, readSteps, says, tooLong, unreadable}
 use Rattle.steptext.specs.Says.{readAs, stepSaid, unread}
 use Rattle.lines.specs.Lines.{Text, lineAt, lines}
 use Rattle.steptext.specs.Text.{body, isEnded, isNumber, isStepLine, parts, stepIn, valueOf}
-use Rattle.steptext.specs.Told.{Gathers, Tells}
-use Rattle.steptext.specs.declared.read.TextRead.{TextRead}
+use Rattle.steptext.specs.Told.{Gathers}
 use Rattle.steptext.specs.declared.read.TextRead.the-variants.{Says, TooLong, Unreadable}
 use Rattle.steptext.specs.declared.says.StepSaid.{StepSaid}
 

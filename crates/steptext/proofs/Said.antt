@@ -4,12 +4,11 @@ use mathlib.Core.List.{List, [], _∷_, _++_, map, append-assoc, append-nil}
 use mathlib.Core.Path.{_≡_, _∙_, refl, sym, ap, ap₂, subst}
 use Prim.Native.Nat.{ℕ, zero, suc, _+_, _-_, _≤_, _<_}
 use borrow.Author.Tests.{eq-eqb, le-leb, leb-false, leb-true, lt-leb}
-use native.Mathlib.Numerals.{add-one}
 use native.Mathlib.Omega.{arith}
 use lib.Dec.{eqb, leb}
 use lib.ListN.{drop, drop-of-length-le, getD, length, length-append, length-drop, length-map, length-take, replicate, set, take}
-use lib.Seq.{drop-drop, drop-nil, set-at, take-all, take-nil}
-use Rattle.messages.proofs.Chain.{last, left-of, skip}
+use lib.Seq.{drop-drop, set-at, take-all, take-nil}
+use Rattle.messages.proofs.Chain.{last, skip}
 use Rattle.messages.specs.Layout.{filled}
 use Rattle.messages.specs.Tests.{all, every, same}
 use Rattle.rules.specs.Run.{stepWidth}
@@ -22,7 +21,6 @@ use Rattle.lines.specs.Lines.{Text, before, onto, tab}
 use Rattle.steptext.specs.Text.{answersIn, answersStart, body, isAnswersLine, isEnded, isNumber, isStepLine, letterA, parts, stepIn, valueOf}
 use Rattle.steptext.specs.declared.numbers.Number.{Number}
 use Rattle.steptext.specs.declared.numbers.Number.the-variants.{Is, Unreadable}
-use Rattle.steptext.specs.declared.says.StepSaid.{StepSaid}
 
 pub never-ended : (l : Text) → length l < 1 → false ≡ isEnded l
 never-ended [] h = refl

@@ -1,19 +1,16 @@
 -- The digits of a number, one by one, and what they come to.
-use mathlib.Core.Bool.{Bool, true, false, _&&_}
-use mathlib.Core.List.{List, [], _∷_, _++_}
+use mathlib.Core.Bool.{true, _&&_}
 use mathlib.Core.Path.{_≡_, _∙_, refl, sym, ap, subst}
 use Prim.Native.Nat.{ℕ, zero, suc, _+_, _*_, _-_, _^_, _≤_, _<_}
-use borrow.Author.Tests.{eq-eqb, leb-true, ne-eqb}
-use native.Mathlib.Nat.{add-zero}
+use borrow.Author.Tests.{leb-true}
 use native.Mathlib.Numerals.{add-one}
 use native.Mathlib.Omega.{arith}
-use lib.Dec.{eqb, leb}
-use lib.ListN.{drop, drop-of-length-le, getD, length}
-use lib.Seq.{drop-cons}
+use lib.Dec.{leb}
+use lib.ListN.{drop, getD, length}
 use Rattle.messages.proofs.Chain.{right-of, skip}
 use Rattle.lines.proofs.Scans.{from}
 use Rattle.messages.specs.Tests.{all, between}
-use Rattle.lines.specs.Lines.{Text, before}
+use Rattle.lines.specs.Lines.{Text}
 use Rattle.steptext.specs.Text.{digit0, isDigit, valueFrom, valueOf}
 
 -- some digits are read, of which the sum has come

@@ -1,7 +1,7 @@
 -- What the code's tests say of a text as a number.
 use mathlib.Core.Bool.{Bool, true, false, _&&_, and-false, cond, true≢false}
 use mathlib.Core.List.{List, [], _∷_}
-use mathlib.Core.Path.{_≡_, _∙_, refl, sym, ap}
+use mathlib.Core.Path.{_≡_, _∙_, sym, ap}
 use Prim.Native.Nat.{ℕ, zero, suc, _+_, _≤_, _<_}
 use borrow.Author.Tests.{le-leb, lt-leb}
 use native.Mathlib.Omega.{arith}
@@ -13,8 +13,7 @@ use Rattle.messages.specs.Tests.{all, every}
 use Rattle.steptext.proofs.Sums.{Reading, split-digits}
 use Rattle.steptext.specs.Number.{numberIn}
 use Rattle.lines.specs.Lines.{Text}
-use Rattle.steptext.specs.Text.{digit0, isDigit, isNumber, mostDigits, mostNumber, noNeedless0, valueFrom, valueOf}
-use Rattle.steptext.specs.declared.numbers.Number.{Number}
+use Rattle.steptext.specs.Text.{isDigit, isNumber, mostDigits, mostNumber, noNeedless0, valueFrom, valueOf}
 use Rattle.steptext.specs.declared.numbers.Number.the-variants.{Is, Unreadable}
 
 -- one test that fails is enough

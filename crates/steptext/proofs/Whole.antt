@@ -2,7 +2,7 @@
 use mathlib.Core.Bool.{Bool, true, false, _&&_, and-false, cond, false≢true}
 use mathlib.Core.List.{List, [], _∷_, _++_}
 use mathlib.Core.Path.{_≡_, _∙_, refl, sym, ap, subst}
-use Prim.Native.Nat.{ℕ, zero, suc, _+_, _*_, _-_, _≤_, _<_}
+use Prim.Native.Nat.{ℕ, _+_, _*_, _-_, _≤_, _<_}
 use borrow.Author.Tests.{le-leb, lt-leb}
 use native.Mathlib.Nat.{zero-add}
 use native.Mathlib.Omega.{arith}
@@ -26,11 +26,10 @@ use Rattle.steptext.specs.Read.{
 use Rattle.steptext.specs.Says.{answersSaid}
 use Rattle.lines.specs.Lines.{Text, lineAt, lines}
 use Rattle.steptext.specs.Text.{answersIn, isAnswersLine}
-use Rattle.steptext.specs.Told.{Gathers, Leaves, Tells, textCount}
-use Rattle.steptext.specs.declared.numbers.Number.{Number}
+use Rattle.steptext.specs.Told.{Gathers, Leaves, textCount}
 use Rattle.steptext.specs.declared.numbers.Number.the-variants.{Is, Unreadable}
 use Rattle.steptext.specs.declared.read.TextRead.{TextRead}
-use Rattle.steptext.specs.declared.read.TextRead.the-variants.{Says, TooLong, Unreadable as UnreadableAt}
+use Rattle.steptext.specs.declared.read.TextRead.the-variants.{TooLong, Unreadable as UnreadableAt}
 
 -- the first line and those after it
 lines-split : (t : Text) → 1 ≤ length t → lines t ≡ lineAt t 0 ∷ lines (drop (length (lineAt t 0)) t)

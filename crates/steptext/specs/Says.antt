@@ -8,7 +8,7 @@ use Rattle.messages.specs.Layout.{filled}
 use Rattle.messages.specs.Tests.{all, every}
 use Rattle.rules.specs.Run.{stepWidth}
 use Rattle.lines.specs.Lines.{Text}
-use Rattle.steptext.specs.Text.{answersIn, body, isAnswersLine, isNumber, isStepLine, parts, stepIn, valueOf}
+use Rattle.steptext.specs.Text.{answersIn, isAnswersLine, isNumber, isStepLine, parts, stepIn, valueOf}
 use Rattle.steptext.specs.declared.numbers.Number.{Number}
 use Rattle.steptext.specs.declared.numbers.Number.the-variants.{Is, Unreadable}
 use Rattle.steptext.specs.declared.says.StepSaid.{StepSaid}

@@ -1,6 +1,6 @@
 -- Step text on lists of bytes: the numbers of a line, and which lines document 01 calls readable.
 use Prim.Native.Nat.{ℕ, _*_, _+_, _-_}
-use mathlib.Core.Bool.{Bool, _&&_, _||_, cond, not}
+use mathlib.Core.Bool.{Bool, _||_, cond, not}
 use mathlib.Core.List.{List, [], _∷_, map}
 use lib.Dec.{eqb, leb}
 use lib.ListN.{drop, getD, length, take}

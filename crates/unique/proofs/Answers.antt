@@ -1,20 +1,19 @@
 -- The answers that are enums: numbers and values fix the case.
-use Prim.Native.Nat.{ℕ, zero, suc, _+_}
+use Prim.Native.Nat.{ℕ}
 use mathlib.Core.Bool.{Bool, true, false, true≢false, false≢true}
 use mathlib.Core.List.{List}
 use mathlib.Core.Path.{_≡_, _∙_, refl, sym, ap, ap₂}
 use native.Mathlib.Omega.{arith}
-use Rattle.messages.specs.declared.parts.Place.{Place}
 use Rattle.record.specs.Table.{lawfulRecord}
-use Rattle.rules.specs.Step.{Outcome, Step, accepted, judgeTable, numberOf, placeOf, refused}
-use Rattle.runs.specs.Ran.{Leaves as RunLeaves, isRefused, ranCount, ranNumber}
+use Rattle.rules.specs.Step.{Outcome, accepted, judgeTable, numberOf, placeOf, refused}
+use Rattle.runs.specs.Ran.{isRefused, ranCount, ranNumber}
 use Rattle.runs.specs.declared.run.Ran.{Ran}
 use Rattle.runs.specs.declared.run.Ran.the-variants.{Messages, Refused as RunRefused}
 use Rattle.step.proofs.Outcomes.{lawful-judged, never-zero, unlawful}
-use Rattle.step.specs.Answer.{Answered, answerNumber, answerPlace}
+use Rattle.step.specs.Answer.{answerNumber, answerPlace}
 use Rattle.step.specs.declared.judge.Answer.{Answer}
 use Rattle.step.specs.declared.judge.Answer.the-variants.{Accepted, Refused}
-use Rattle.steptext.specs.Told.{Leaves as TextLeaves, textAnswers, textCount, textLine, textNumber}
+use Rattle.steptext.specs.Told.{textAnswers, textCount, textLine, textNumber}
 use Rattle.steptext.specs.declared.read.TextRead.{TextRead}
 use Rattle.steptext.specs.declared.read.TextRead.the-variants.{Says, TooLong, Unreadable}
 use Rattle.unique.specs.Unique.{PlayUnique, RunUnique, StepUnique, TextUnique}

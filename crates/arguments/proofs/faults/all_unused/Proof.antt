@@ -1,6 +1,5 @@
 -- `arguments::faults::all_unused` meets its promise.
 use Prim.Native.Nat.{_-_, _≤_}
-use borrow.Author.Needs.{needs}
 use borrow.Author.Tests.{eq-eqb, ne-eqb}
 use lib.ListN.{drop}
 use mathlib.Core.Path.{_∙_, _≡_, refl, sym}

@@ -1,6 +1,5 @@
 -- `arguments::faults::first_fault` meets its promise.
 use Prim.Native.Nat.{_+_, _-_, _≤_, min, ℕ}
-use borrow.Author.Needs.{needs}
 use borrow.Author.Tests.{not-false, not-true}
 use lib.ListN.{drop, getD}
 use mathlib.Core.Logic.{⊎-elim}

@@ -2,7 +2,6 @@
 use borrow.Author.Needs.{needs}
 use borrow.Author.Tests.{not-false, not-true}
 use mathlib.Core.Path.{_∙_, ap, refl, sym}
-use native.Mathlib.Omega.{arith}
 use Rattle.record.proofs.Cut.{message-at}
 use Rattle.messages.proofs.Chain.{above, below, inside}
 use Rattle.messages.proofs.Picks.{no, yes}

@@ -1,10 +1,9 @@
 -- `arguments::items::buyer_signed_in` meets its promise.
 use borrow.Author.Needs.{needs}
 use borrow.Author.Tests.{eq-eqb, ne-eqb}
-use mathlib.Core.Path.{_∙_, _≡_, ap, refl, sym}
-use Rattle.messages.proofs.Chain.{last, skip, stop}
+use mathlib.Core.Path.{_∙_, ap, refl}
 use Rattle.messages.specs.Signed.{buyerSignedAt}
-use Rattle.messages.proofs.Picks.{no, one, other, yes}
+use Rattle.messages.proofs.Picks.{no, yes}
 use Rattle.arguments.proofs.items.buyer_signed_in.Statement.{statement}
 use Rattle.arguments.proofs.items.buyer_signed_in.Tie as tie
 

@@ -1,10 +1,9 @@
 -- `arguments::items::drawn_in` meets its promise.
 use borrow.Author.Needs.{needs}
 use borrow.Author.Tests.{eq-eqb, ne-eqb}
-use mathlib.Core.Path.{_∙_, _≡_, ap, refl, sym}
-use Rattle.messages.proofs.Chain.{last, skip, stop}
+use mathlib.Core.Path.{ap}
 use Rattle.messages.specs.declared.parts.Slip.{Slip}
-use Rattle.messages.proofs.Picks.{no, one, other, yes}
+use Rattle.messages.proofs.Picks.{no, yes}
 use Rattle.arguments.proofs.items.drawn_in.Statement.{statement}
 use Rattle.arguments.proofs.items.drawn_in.Tie as tie
 

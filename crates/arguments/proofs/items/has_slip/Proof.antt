@@ -1,9 +1,8 @@
 -- `arguments::items::has_slip` meets its promise.
 use borrow.Author.Needs.{needs}
 use borrow.Author.Tests.{eq-eqb, ne-eqb}
-use mathlib.Core.Path.{_∙_, _≡_, ap, refl, sym}
-use Rattle.messages.proofs.Chain.{last, skip, stop}
-use Rattle.messages.proofs.Picks.{no, one, other, yes}
+use mathlib.Core.Path.{refl}
+use Rattle.messages.proofs.Picks.{one, other}
 use Rattle.arguments.proofs.items.has_slip.Statement.{statement}
 use Rattle.arguments.proofs.items.has_slip.Tie as tie
 

@@ -2,10 +2,9 @@
 use borrow.Author.Needs.{needs}
 use borrow.Author.Tests.{eq-eqb, ne-eqb}
 use lib.Dec.{eqb}
-use mathlib.Core.Path.{_∙_, _≡_, ap, refl, sym}
-use Rattle.messages.proofs.Chain.{last, skip, stop}
+use mathlib.Core.Path.{ap}
+use Rattle.messages.proofs.Chain.{skip, stop}
 use Rattle.messages.specs.declared.parts.Drawn.{Drawn}
-use Rattle.messages.proofs.Picks.{no, one, other, yes}
 use Rattle.arguments.proofs.items.is_own_initiate.Statement.{statement}
 use Rattle.arguments.proofs.items.is_own_initiate.Tie as tie
 

@@ -1,11 +1,10 @@
 -- `arguments::items::is_readable` meets its promise.
 use borrow.Author.Needs.{needs}
-use borrow.Author.Tests.{eq-eqb, ne-eqb, not-false, not-true}
+use borrow.Author.Tests.{not-false, not-true}
 use lib.Dec.{eqb}
-use mathlib.Core.Path.{_∙_, _≡_, ap, refl, sym}
-use Rattle.messages.proofs.Chain.{last, skip, stop}
+use mathlib.Core.Path.{_∙_, ap, sym}
+use Rattle.messages.proofs.Chain.{skip, stop}
 use Rattle.messages.specs.declared.parts.Slip.{Slip}
-use Rattle.messages.proofs.Picks.{no, one, other, yes}
 use Rattle.arguments.proofs.items.is_readable.Statement.{statement}
 use Rattle.arguments.proofs.items.is_readable.Tie as tie
 

@@ -1,9 +1,7 @@
 -- `arguments::items::slip_in` meets its promise.
 use borrow.Author.Needs.{needs}
 use borrow.Author.Tests.{eq-eqb, ne-eqb}
-use mathlib.Core.Path.{_∙_, _≡_, ap, refl, sym}
-use Rattle.messages.proofs.Chain.{last, skip, stop}
-use Rattle.messages.proofs.Picks.{no, one, other, yes}
+use Rattle.messages.proofs.Picks.{no, yes}
 use Rattle.arguments.proofs.items.slip_in.Statement.{statement}
 use Rattle.arguments.proofs.items.slip_in.Tie as tie
 

@@ -3,7 +3,7 @@ use borrow.Author.Needs.{needs}
 use borrow.Author.Tests.{ne-eqb}
 use lib.Dec.{eqb}
 use mathlib.Core.Bool.{Bool, cond, false, true}
-use mathlib.Core.Path.{_∙_, _≡_, ap, refl, sym}
+use mathlib.Core.Path.{_≡_, refl}
 use Rattle.messages.specs.Parts.{Message}
 use Rattle.rules.specs.Codes.{Argument}
 use Rattle.arguments.specs.Letters.{offers}

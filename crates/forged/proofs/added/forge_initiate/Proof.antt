@@ -1,11 +1,9 @@
 -- `forged::added::forge_initiate` meets its promise.
 use borrow.Author.Needs.{needs}
-use mathlib.Core.Path.{_∙_, _≡_, refl}
+use mathlib.Core.Path.{_∙_}
 use Rattle.messages.specs.Layout.{anInitiate}
-use Rattle.record.specs.Table.{messages}
-use Rattle.rules.specs.Codes.{Argument, Item}
 use Rattle.rules.specs.Forged.{noBuyer}
-use Rattle.forged.specs.Outside.{forgedIn, gatheredIn, itemIn, numberIn}
+use Rattle.forged.specs.Outside.{forgedIn, gatheredIn}
 use Rattle.forged.proofs.added.forge_initiate.Statement.{statement}
 use Rattle.forged.proofs.added.forge_initiate.Tie as tie
 

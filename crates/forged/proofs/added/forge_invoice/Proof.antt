@@ -1,12 +1,12 @@
 -- `forged::added::forge_invoice` meets its promise.
 use borrow.Author.Needs.{needs}
-use mathlib.Core.Path.{_∙_, _≡_, refl}
+use mathlib.Core.Path.{_∙_, _≡_}
 use Rattle.messages.specs.Layout.{anInvoice}
 use Rattle.record.specs.Table.{messages}
-use Rattle.rules.specs.Codes.{Argument, Item}
+use Rattle.rules.specs.Codes.{Item}
 use Rattle.rules.specs.Forged.{noSeller}
 use Rattle.rules.specs.Items.{invoiceSignedIn}
-use Rattle.forged.specs.Outside.{forgedIn, gatheredIn, itemIn, numberIn}
+use Rattle.forged.specs.Outside.{forgedIn, gatheredIn, itemIn}
 use Rattle.forged.proofs.added.forge_invoice.Statement.{statement}
 use Rattle.forged.proofs.added.forge_invoice.Tie as tie
 

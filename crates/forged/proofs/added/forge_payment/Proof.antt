@@ -1,14 +1,14 @@
 -- `forged::added::forge_payment` meets its promise.
 use borrow.Author.Needs.{needs}
-use mathlib.Core.Path.{_∙_, _≡_, refl}
+use mathlib.Core.Path.{_∙_, _≡_}
 use Rattle.messages.specs.Layout.{aPayment}
 use Rattle.record.specs.Table.{messages}
-use Rattle.rules.specs.Codes.{Argument, Item}
+use Rattle.rules.specs.Codes.{Item}
 use Rattle.rules.specs.Forged.{noBuyer, slip}
 use Rattle.rules.specs.Honest.{house, slipUnder}
 use Rattle.rules.specs.Items.{buyerSignedIn, slipIn}
 use Rattle.rules.specs.Step.{argumentsOf}
-use Rattle.forged.specs.Outside.{forgedIn, gatheredIn, itemIn, numberIn, takenBy}
+use Rattle.forged.specs.Outside.{forgedIn, gatheredIn, itemIn, takenBy}
 use Rattle.forged.proofs.added.forge_payment.Statement.{statement}
 use Rattle.forged.proofs.added.forge_payment.Tie as tie
 

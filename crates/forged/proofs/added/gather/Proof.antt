@@ -1,6 +1,6 @@
 -- `forged::added::gather` meets its promise.
 use borrow.Author.Needs.{needs}
-use mathlib.Core.Path.{_∙_, _≡_, ap, refl}
+use mathlib.Core.Path.{_∙_, _≡_, refl}
 use Rattle.record.specs.Table.{messages}
 use Rattle.rules.specs.Codes.{Argument, Item}
 use Rattle.rules.specs.Forged.{account, buyer, drawn, hashed, mark, seller}

@@ -1,6 +1,6 @@
 -- `forged::copied::buyer` meets its promise.
 use borrow.Author.Needs.{needs}
-use mathlib.Core.Path.{_∙_, ap, refl, sym}
+use mathlib.Core.Path.{_∙_, refl, sym}
 use Rattle.rules.specs.Codes.{Argument}
 use Rattle.rules.specs.Step.{argumentsOf}
 use Rattle.forged.proofs.Found.{found, found-number, lost}

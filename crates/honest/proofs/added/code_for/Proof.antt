@@ -1,11 +1,11 @@
 -- `honest::added::code_for` meets its promise.
-use Prim.Native.Nat.{_%_, _/_, _<_, _^_, _≤_, ℕ}
+use Prim.Native.Nat.{_%_, _/_, _^_, ℕ}
 use borrow.Author.Needs.{needs}
 use borrow.Author.Tests.{eq-eqb, ne-eqb}
 use lib.Bits.{and-mask}
 use lib.Dec.{eqb}
 use lib.Pow.{pow-mono}
-use mathlib.Core.Path.{_∙_, _≡_, ap, refl, sym}
+use mathlib.Core.Path.{_∙_, ap, refl, sym}
 use native.Mathlib.Nat.{div-eq-of-lt, lt-of-lt-of-le}
 use Rattle.messages.proofs.Picks.{no, yes}
 use Rattle.honest.proofs.added.code_for.Statement.{statement}

@@ -1,5 +1,4 @@
 -- `honest::added::replied` meets its promise.
-use Prim.Native.Nat.{ℕ}
 use borrow.Author.Needs.{needs}
 use mathlib.Core.Path.{_∙_, _≡_, ap}
 use Rattle.messages.specs.Layout.{requestSlip, source}

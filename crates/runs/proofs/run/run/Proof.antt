@@ -3,7 +3,6 @@ use borrow.Author.Needs.{needs}
 use borrow.Author.Tests.{le-leb, lt-leb, not-false, not-true}
 use lib.ListN.{length}
 use mathlib.Core.Path.{_∙_, sym}
-use native.Mathlib.Omega.{arith}
 use Rattle.rules.specs.Run.{stepCount}
 use Rattle.runs.proofs.Refusals.{few-bytes, no-steps, not-whole, plays}
 use Rattle.runs.proofs.run.run.Statement.{statement}
