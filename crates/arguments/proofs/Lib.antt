@@ -1,4 +1,5 @@
 pub mod Ends
 pub mod Lowest
+pub mod Offered
 pub mod Places
 pub mod Takes

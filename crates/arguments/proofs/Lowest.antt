@@ -15,7 +15,11 @@ use Rattle.record.specs.Table.{Record, messageAt}
 use Rattle.rules.specs.Codes.{Argument, Item, letter, rowOf}
 use Rattle.rules.specs.Items.{eachArgument, holding, inRange, placed, readable}
 use Rattle.rules.specs.Step.{argumentsOf, codeOf}
+<<<<<<< HEAD
 use Rattle.arguments.specs.Faults.{faultOf, faults, fine, placeFault}
+=======
+use Rattle.arguments.specs.Faults.{faultOf, faults, fine, placeFault, zeroFault}
+>>>>>>> jumps
 use Rattle.arguments.specs.Letters.{argumentLettered}
 use Rattle.arguments.specs.Ready.{Known}
 use Rattle.arguments.proofs.Takes.{argument-at, six, six-arguments}
@@ -43,26 +47,46 @@ lettered (Argument.at Item.g) = refl
 pub tells : (k : Argument) (x : ℕ) → letter k ≡ x → argumentLettered x ≡ k
 tells k x e = ap argumentLettered (sym e) ∙ lettered k
 
--- an argument that is a place
-pub places : (n : ℕ) (R : Record) (k : Argument) (x : ℕ) → (letter k ≡ 45 → ⊥) → (letter k ≡ 66 → ⊥) → (letter k ≡ 83 → ⊥)
-    → (letter k ≡ 99 → ⊥) → (letter k ≡ 97 → ⊥) → placeFault n R k x ≡ faultOf n R k x
-places n R Argument.unused x u b s c a = absurd (u refl)
-places n R Argument.B x u b s c a = absurd (b refl)
-places n R Argument.S x u b s c a = absurd (s refl)
-places n R Argument.c x u b s c a = absurd (c refl)
-places n R Argument.a x u b s c a = absurd (a refl)
-places n R (Argument.the k) x u b s c a = refl
-places n R (Argument.at i) x u b s c a = refl
-
--- his own account, or a place
-pub own : (n : ℕ) (R : Record) (x : ℕ) → x ≡ 0 → fine ≡ faultOf n R Argument.a x
-own n R x e =
-    subst (λ (y : ℕ). fine ≡ faultOf n R Argument.a y) (sym e) (sym (ap (λ (b : Bool). cond b fine 4) (le-leb 0 n zero-le)))
-
-pub borrowed : (n : ℕ) (R : Record) (x : ℕ) → (x ≡ 0 → ⊥) → placeFault n R Argument.a x ≡ faultOf n R Argument.a x
+-- an argument that is a place: a message there must have what it asks for, and 0 is none but for his own account
+borrowed : (n : ℕ) (R : Record) (x : ℕ) → (x ≡ 0 → ⊥) → placeFault n R Argument.a x ≡ faultOf n R Argument.a x
 borrowed n R x h =
     ap₂ (λ (b d : Bool). cond (b && leb x n) (cond (d || readable (messageAt R (record { 0 = x }))) fine 5) 4) (le-leb 1 x (omega arith))
     (sym (ne-eqb x 0 h))
+
+pub at-place : (n : ℕ) (R : Record) (k : Argument) (x : ℕ) → (letter k ≡ 45 → ⊥) → (letter k ≡ 83 → ⊥) → (letter k ≡ 66 → ⊥)
+    → (letter k ≡ 99 → ⊥) → (x ≡ 0 → ⊥) → placeFault n R k x ≡ faultOf n R k x
+at-place n R Argument.unused x u s b c z = absurd (u refl)
+at-place n R Argument.B x u s b c z = absurd (b refl)
+at-place n R Argument.S x u s b c z = absurd (s refl)
+at-place n R Argument.c x u s b c z = absurd (c refl)
+at-place n R Argument.a x u s b c z = borrowed n R x z
+at-place n R (Argument.the k) x u s b c z = refl
+at-place n R (Argument.at i) x u s b c z = refl
+
+at-zero′ : (n : ℕ) (R : Record) (k : Argument) → (letter k ≡ 45 → ⊥) → (letter k ≡ 83 → ⊥) → (letter k ≡ 66 → ⊥)
+    → (letter k ≡ 99 → ⊥) → zeroFault (letter k) ≡ faultOf n R k 0
+at-zero′ n R Argument.unused u s b c = absurd (u refl)
+at-zero′ n R Argument.B u s b c = absurd (b refl)
+at-zero′ n R Argument.S u s b c = absurd (s refl)
+at-zero′ n R Argument.c u s b c = absurd (c refl)
+at-zero′ n R Argument.a u s b c = sym (ap (λ (b : Bool). cond b fine 4) (le-leb 0 n zero-le))
+at-zero′ n R (Argument.the Initiate) u s b c = refl
+at-zero′ n R (Argument.the Invoice) u s b c = refl
+at-zero′ n R (Argument.the Payment) u s b c = refl
+at-zero′ n R (Argument.the AuthRequest) u s b c = refl
+at-zero′ n R (Argument.the AuthResponse) u s b c = refl
+at-zero′ n R (Argument.at Item.h) u s b c = refl
+at-zero′ n R (Argument.at Item.m) u s b c = refl
+at-zero′ n R (Argument.at Item.e) u s b c = refl
+at-zero′ n R (Argument.at Item.r) u s b c = refl
+at-zero′ n R (Argument.at Item.v) u s b c = refl
+at-zero′ n R (Argument.at Item.q) u s b c = refl
+at-zero′ n R (Argument.at Item.p) u s b c = refl
+at-zero′ n R (Argument.at Item.g) u s b c = refl
+
+pub at-zero : (n : ℕ) (R : Record) (k : Argument) (x : ℕ) → (letter k ≡ 45 → ⊥) → (letter k ≡ 83 → ⊥) → (letter k ≡ 66 → ⊥)
+    → (letter k ≡ 99 → ⊥) → x ≡ 0 → zeroFault (letter k) ≡ faultOf n R k x
+at-zero n R k x u s b c e = subst (λ (y : ℕ). zeroFault (letter k) ≡ faultOf n R k y) (sym e) (at-zero′ n R k u s b c)
 
 -- gates that two arguments pass or not: the lower number wins
 unfoldable pub three : Bool → Bool → Bool → ℕ

@@ -25,6 +25,10 @@ rangeFault least x most = through (3 unless between least x most ∷ []) itself 
 abbrev pub placeFault : ℕ → Record → Argument → ℕ → ℕ
 placeFault n R k x = through (4 unless between 1 x n ∷ 5 unless offers k (messageAt R (record { 0 = x })) ∷ []) itself fine
 
+-- of an argument of this letter that is a place and 0: only a may be
+abbrev pub zeroFault : ℕ → ℕ
+zeroFault letter = through (4 unless eqb letter 97 ∷ []) itself fine
+
 abbrev pub faultOf : ℕ → Record → Argument → ℕ → ℕ
 faultOf n R k x = through (3 unless inRange k x ∷ 4 unless placed n k x ∷ 5 unless holding R k x ∷ []) itself fine
 

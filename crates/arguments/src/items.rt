@@ -17,20 +17,32 @@ use messages::signed::BuyerSigned;
 use messages::signed::buyer_signed_at;
 ghost use mathlib.Core.Bool.{_&&_};
 ghost use mathlib.Core.Path.{_≡_};
+ghost use Prim.Native.Nat.{_≤_};
 ghost use lib.Dec.{eqb};
 ghost use lib.ListN.{length};
-ghost use Rattle.messages.specs.Layout.{Initiate, body, kindOf, messageWidth};
+ghost use Rattle.messages.specs.Layout.{Initiate, body, messageWidth};
 ghost use Rattle.messages.specs.Parts.{drawnAt};
 ghost use Rattle.rules.specs.Codes.{Item};
 ghost use Rattle.rules.specs.Items.{buyerSignedIn, drawnIn, hasSlip, isKind, readable, slipIn, yields as yieldsItem};
-ghost use Rattle.arguments.specs.Letters.{argumentLettered, offers};
+ghost use Rattle.arguments.specs.Letters.{argumentLettered, honestLetter, kindsOf, offers};
 
-fn kind_is(m: &[u16], kind: u16) -> bool
-    requires { ⌜ length (now m) ≡ messageWidth ⌝ }
-    ensures { λ r. ⌜ r ≡ eqb (kindOf (now (m .entry))) kind ⌝ }
-{
-    m[KIND] == kind
-}
+// Above every letter of an honest step's place.
+const NO_LETTER: u8 = b'z';
+
+// Kinds of message, bit k for kind k. A slip stands in a Payment or an Auth-Request.
+const IN_INITIATE: u16 = 0b000010;
+
+const IN_INVOICE: u16 = 0b000100;
+
+const IN_REQUEST: u16 = 0b010000;
+
+const IN_RESPONSE: u16 = 0b100000;
+
+const IN_SLIP: u16 = 0b011000;
+
+const IN_INVOICE_OR_REQUEST: u16 = 0b010100;
+
+const IN_INITIATE_OR_SLIP: u16 = 0b011010;
 
 pub fn slip_in(m: &[u16]) -> Slip
     requires { ⌜ length (now m) ≡ messageWidth ⌝ }
@@ -97,40 +109,6 @@ fn is_own_initiate(m: &[u16]) -> bool
     drawn.drawer.0 == 0
 }
 
-// Whether a message yields what an argument of this letter asks of it.
-pub fn yields(letter: u8, m: &[u16]) -> bool
-    requires { ⌜ length (now m) ≡ messageWidth ⌝ }
-    ensures { λ r. ⌜ r ≡ offers (argumentLettered letter) (now (m .entry)) ⌝ }
-{
-    match letter {
-        b'I' => kind_is(m, INITIATE),
-        b'V' => kind_is(m, INVOICE),
-        b'P' => kind_is(m, PAYMENT),
-        b'Q' => kind_is(m, AUTH_REQUEST),
-        b'R' => kind_is(m, AUTH_RESPONSE),
-        b'h' => kind_is(m, INITIATE),
-        b'm' => has_mark(m),
-        b'e' => has_slip(m),
-        b'r' => has_draw(m),
-        b'v' => kind_is(m, INVOICE),
-        b'q' => kind_is(m, AUTH_REQUEST),
-        b'p' => has_slip(m),
-        b'g' => kind_is(m, AUTH_RESPONSE),
-        b'a' => is_readable(m),
-        _ => true,
-    }
-}
-
-fn has_mark(m: &[u16]) -> bool
-    requires { ⌜ length (now m) ≡ messageWidth ⌝ }
-    ensures { λ r. ⌜ r ≡ yieldsItem Item.m (now (m .entry)) ⌝ }
-{
-    if m[KIND] == INVOICE {
-        return true;
-    }
-    m[KIND] == AUTH_REQUEST
-}
-
 fn has_draw(m: &[u16]) -> bool
     requires { ⌜ length (now m) ≡ messageWidth ⌝ }
     ensures { λ r. ⌜ r ≡ yieldsItem Item.r (now (m .entry)) ⌝ }
@@ -139,4 +117,62 @@ fn has_draw(m: &[u16]) -> bool
         return true;
     }
     is_readable(m)
+}
+
+// The letter of an honest step's place at which a message of this kind may stand: a capital.
+fn honest_letter(kind: u16) -> u8
+    ensures { λ r. ⌜ r ≡ honestLetter kind ⌝ }
+{
+    match kind {
+        INITIATE => b'I',
+        INVOICE => b'V',
+        PAYMENT => b'P',
+        AUTH_REQUEST => b'Q',
+        AUTH_RESPONSE => b'R',
+        _ => NO_LETTER,
+    }
+}
+
+// The kinds of message in which what a small letter asks for may stand.
+fn kinds(letter: u8) -> u16
+    requires { ⌜ 97 ≤ letter ⌝ }
+    ensures { λ r. ⌜ r ≡ kindsOf (argumentLettered letter) ⌝ }
+{
+    match letter {
+        b'a' => IN_SLIP,
+        b'e' => IN_SLIP,
+        b'g' => IN_RESPONSE,
+        b'h' => IN_INITIATE,
+        b'm' => IN_INVOICE_OR_REQUEST,
+        b'p' => IN_SLIP,
+        b'q' => IN_REQUEST,
+        b'r' => IN_INITIATE_OR_SLIP,
+        b'v' => IN_INVOICE,
+        _ => 0,
+    }
+}
+
+// Whether a message yields what an argument of this letter asks of it. The arms above are plain numbers, of which the compiler makes
+// tables; of a `match` on the letter with a test in each arm it makes a jump, which the processor often guesses wrong.
+pub fn yields(letter: u8, m: &[u16]) -> bool
+    requires { ⌜ length (now m) ≡ messageWidth ⌝ }
+    ensures { λ r. ⌜ r ≡ offers (argumentLettered letter) (now (m .entry)) ⌝ }
+{
+    let kind = m[KIND];
+    if AUTH_RESPONSE < kind {
+        return false;
+    }
+    if letter < b'a' {
+        return letter == honest_letter(kind);
+    }
+    if (kinds(letter) >> kind) & 1 == 0 {
+        return false;
+    }
+    if letter == b'r' {
+        return has_draw(m);
+    }
+    if letter == b'a' {
+        return is_readable(m);
+    }
+    true
 }
