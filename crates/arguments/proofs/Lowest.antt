@@ -15,11 +15,7 @@ use Rattle.record.specs.Table.{Record, messageAt}
 use Rattle.rules.specs.Codes.{Argument, Item, letter, rowOf}
 use Rattle.rules.specs.Items.{eachArgument, holding, inRange, placed, readable}
 use Rattle.rules.specs.Step.{argumentsOf, codeOf}
-<<<<<<< HEAD
-use Rattle.arguments.specs.Faults.{faultOf, faults, fine, placeFault}
-=======
 use Rattle.arguments.specs.Faults.{faultOf, faults, fine, placeFault, zeroFault}
->>>>>>> jumps
 use Rattle.arguments.specs.Letters.{argumentLettered}
 use Rattle.arguments.specs.Ready.{Known}
 use Rattle.arguments.proofs.Takes.{argument-at, six, six-arguments}

@@ -1,11 +1,8 @@
 -- `arguments::items::yields` meets its promise.
 use borrow.Author.Needs.{needs}
 use lib.Dec.{eqb}
-<<<<<<< HEAD
-=======
 use mathlib.Core.Path.{_∙_, ap}
 use Rattle.arguments.proofs.Offered.{far, has, honest, lacks}
->>>>>>> jumps
 use Rattle.arguments.proofs.items.yields.Statement.{statement}
 use Rattle.arguments.proofs.items.yields.Tie as tie
 
