@@ -1,10 +1,10 @@
 // The messages that the five honest steps add.
 use crate::allowed::order_mark;
-use messages::build::auth_request;
-use messages::build::auth_response;
-use messages::build::initiate;
-use messages::build::invoice;
-use messages::build::payment;
+use building::build::auth_request;
+use building::build::auth_response;
+use building::build::initiate;
+use building::build::invoice;
+use building::build::payment;
 use messages::layout::BODY;
 use messages::layout::DESTINATION;
 use messages::layout::MESSAGE_WIDTH;

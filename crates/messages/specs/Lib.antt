@@ -1,5 +1,4 @@
 pub mod Layout
 pub mod Parts
-pub mod Put
 pub mod Signed
 pub mod Tests

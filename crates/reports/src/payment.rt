@@ -1,8 +1,8 @@
 // The four messages of a payment, by its mark.
-use messages::build::auth_request;
-use messages::build::initiate;
-use messages::build::invoice;
-use messages::build::payment;
+use building::build::auth_request;
+use building::build::initiate;
+use building::build::invoice;
+use building::build::payment;
 use messages::layout::MESSAGE_WIDTH;
 use messages::parts::Gateway;
 use messages::parts::HOUSE;
