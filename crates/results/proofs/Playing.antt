@@ -14,7 +14,8 @@ use Rattle.rules.proofs.Runs.{left-is, verdicts-length}
 use Rattle.rules.specs.Run.{played, stepCount, stepWidth, stepsOf, verdicts}
 use Rattle.runs.specs.Ran.{Plays}
 use Rattle.results.proofs.Told.{rows-told}
-use Rattle.results.specs.Printed.{linesOf, results, stepLine}
+use Rattle.printing.specs.Printed.{linesOf, stepLine}
+use Rattle.results.specs.Output.{results}
 use Rattle.results.specs.Rows.{replyLines, stepLines}
 
 -- the messages of a whole table are within it, and no more than it may have

@@ -21,7 +21,7 @@ use Rattle.rules.specs.Report.{houseReply, replyMark, reportOn}
 use Rattle.rules.specs.Run.{verdicts}
 use Rattle.rules.specs.Said.{replyRow, replyRows, stepRows}
 use Rattle.rules.specs.Step.{Outcome, Step, accepted, judge, numberOf, placeOf, recordAfter, refused}
-use Rattle.results.specs.Printed.{linesOf, replyLine, stepLine}
+use Rattle.printing.specs.Printed.{linesOf, replyLine, stepLine}
 use Rattle.results.specs.Rows.{countBy, lineAfter, lineIf, placeBy, rowsBy}
 
 -- an accepted step is known by its number 0

@@ -1,6 +1,3 @@
-pub mod Decimal
-pub mod Printed
-pub mod Put
+pub mod Output
 pub mod Rows
 pub mod Shown
-pub mod Widths

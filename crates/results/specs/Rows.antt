@@ -8,7 +8,7 @@ use Rattle.record.specs.Table.{Record, messageIn, messages}
 use Rattle.rules.specs.Report.{houseReply, replyMark}
 use Rattle.rules.specs.Said.{replyRow, replyRows}
 use Rattle.lines.specs.Lines.{Text}
-use Rattle.results.specs.Printed.{linesOf, replyLine, stepLine}
+use Rattle.printing.specs.Printed.{linesOf, replyLine, stepLine}
 
 -- a step of this number with n messages before it: its place, and how many messages there are after it
 abbrev pub placeBy : ℕ → ℕ → ℕ

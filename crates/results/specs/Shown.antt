@@ -6,7 +6,7 @@ use lib.ListN.{length, take}
 use Rattle.record.specs.Table.{flat, mostRoom}
 use Rattle.rules.specs.Run.{over, played}
 use Rattle.steptext.specs.Read.{Reading, says, tooLong, unreadable}
-use Rattle.results.specs.Printed.{output, reading}
+use Rattle.results.specs.Output.{output, reading}
 
 -- the record table; a refused text leaves it as found
 abbrev pub recordLeft : List ℕ → Reading → List ℕ

@@ -1,5 +1,3 @@
-// Results as text: a line for each step and for each house reply, or one line for a refused text, written into bytes that are lent.
+// The results of a text that is played: the lines of its steps and of its house replies, or one line for a refused text.
 pub mod play;
-pub mod printed;
-pub mod put;
 pub mod rows;

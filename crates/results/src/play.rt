@@ -1,9 +1,9 @@
 // A text played on a lent record, with its results in lent bytes: all that the program does between reading and writing.
-use crate::printed::REPLY_WIDEST;
-use crate::printed::STEP_WIDEST;
-use crate::printed::put_refused_line;
 use crate::rows::put_results;
 use messages::layout::MESSAGE_WIDTH;
+use printing::printed::REPLY_WIDEST;
+use printing::printed::STEP_WIDEST;
+use printing::printed::put_refused_line;
 use record::table::MOST_ROOM;
 use runs::run::MOST_STEPS;
 use runs::run::STEP_WIDTH;
@@ -16,9 +16,9 @@ ghost use mathlib.Core.Path.{_≡_};
 ghost use Prim.Native.Nat.{_≤_};
 ghost use lib.ListN.{length};
 ghost use Rattle.record.specs.Table.{flat, roomOf, whole};
-ghost use Rattle.results.specs.Printed.{results};
-ghost use Rattle.results.specs.Put.{Put};
-ghost use Rattle.results.specs.Widths.{mostPrinted};
+ghost use Rattle.results.specs.Output.{results};
+ghost use Rattle.printing.specs.Put.{Put};
+ghost use Rattle.printing.specs.Widths.{mostPrinted};
 ghost use Rattle.results.specs.Shown.{Shows};
 ghost use Rattle.rules.specs.Run.{mostSteps, over, played, stepCount, stepsOf};
 

@@ -1,9 +1,9 @@
 // The lines of a list that was played: a line for each step, then, by place, a line for each house reply.
-use crate::printed::put_reply_line;
-use crate::printed::put_step_line;
 use messages::layout::REPLY_SIGNED;
 use messages::parts::Place;
 use messages::signed::reply_signed_at;
+use printing::printed::put_reply_line;
+use printing::printed::put_step_line;
 use record::table::message;
 use reports::report::is_house_reply;
 use reports::report::report_on;
@@ -13,9 +13,9 @@ ghost use Prim.Native.Nat.{_*_, _+_, _<_, _≤_};
 ghost use lib.ListN.{length};
 ghost use Rattle.messages.specs.Layout.{messageWidth};
 ghost use Rattle.record.specs.Table.{messages, mostRoom};
-ghost use Rattle.results.specs.Put.{Put};
+ghost use Rattle.printing.specs.Put.{Put};
 ghost use Rattle.results.specs.Rows.{countBy, lineAfter, placeBy, replyLines, stepLines};
-ghost use Rattle.results.specs.Widths.{mostPrinted, replyWidest, stepWidest};
+ghost use Rattle.printing.specs.Widths.{mostPrinted, replyWidest, stepWidest};
 ghost use Rattle.rules.specs.Run.{mostSteps};
 
 // A step's place, and how many messages there are after it.

@@ -4,8 +4,8 @@ use lib.Seq.{length-take-le}
 use mathlib.Core.Path.{sym, subst}
 use native.Mathlib.Omega.{arith}
 use Rattle.results.proofs.Playing.{in-table, printed}
-use Rattle.results.specs.Put.{Put}
-use Rattle.results.specs.Widths.{mostPrinted}
+use Rattle.printing.specs.Put.{Put}
+use Rattle.printing.specs.Widths.{mostPrinted}
 use Rattle.rules.specs.Run.{stepCount}
 use Rattle.lines.specs.Lines.{Text}
 use Rattle.results.proofs.play.play_steps.Statement.{statement}

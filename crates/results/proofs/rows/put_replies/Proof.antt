@@ -4,10 +4,10 @@ use lib.ListN.{drop}
 use native.Mathlib.Omega.{arith}
 use Rattle.record.specs.Table.{messages}
 use Rattle.results.proofs.Told.{replies-from, replies-over}
-use Rattle.results.proofs.Writing.{Going, begin, bounded, over, turn}
-use Rattle.results.specs.Printed.{linesOf, replyLine}
+use Rattle.printing.proofs.Writing.{Going, begin, bounded, over, turn}
+use Rattle.printing.specs.Printed.{linesOf, replyLine}
 use Rattle.results.specs.Rows.{replyLines}
-use Rattle.results.specs.Widths.{replyWidest}
+use Rattle.printing.specs.Widths.{replyWidest}
 use Rattle.rules.specs.Said.{replyRows}
 use Rattle.results.proofs.rows.put_replies.Statement.{statement}
 use Rattle.results.proofs.rows.put_replies.Tie as tie

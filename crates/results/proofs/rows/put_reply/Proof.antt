@@ -3,9 +3,9 @@ use borrow.Author.Needs.{needs}
 use borrow.Author.Tests.{not-false, not-true}
 use mathlib.Core.Path.{_∙_, subst, sym}
 use Rattle.results.proofs.Told.{its-line, no-line}
-use Rattle.results.proofs.Writing.{none}
-use Rattle.results.specs.Put.{Put}
-use Rattle.results.specs.Widths.{replyWidest}
+use Rattle.printing.proofs.Writing.{none}
+use Rattle.printing.specs.Put.{Put}
+use Rattle.printing.specs.Widths.{replyWidest}
 use Rattle.lines.specs.Lines.{Text}
 use Rattle.results.proofs.rows.put_reply.Statement.{statement}
 use Rattle.results.proofs.rows.put_reply.Tie as tie

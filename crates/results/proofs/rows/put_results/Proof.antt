@@ -1,8 +1,8 @@
 -- `results::rows::put_results` meets its promise.
 use borrow.Author.Needs.{needs}
 use native.Mathlib.Omega.{arith}
-use Rattle.results.proofs.Writing.{bounded, then}
-use Rattle.results.specs.Widths.{mostPrinted}
+use Rattle.printing.proofs.Writing.{bounded, then}
+use Rattle.printing.specs.Widths.{mostPrinted}
 use Rattle.results.proofs.rows.put_results.Statement.{statement}
 use Rattle.results.proofs.rows.put_results.Tie as tie
 

@@ -3,10 +3,10 @@ use Prim.Native.Nat.{_*_, _+_, _-_, _≤_}
 use lib.ListN.{drop, length, getD}
 use native.Mathlib.Omega.{arith}
 use Rattle.results.proofs.Told.{count-grows, steps-from, steps-over}
-use Rattle.results.proofs.Writing.{Going, begin, bounded, over, turn}
-use Rattle.results.specs.Printed.{linesOf, stepLine}
+use Rattle.printing.proofs.Writing.{Going, begin, bounded, over, turn}
+use Rattle.printing.specs.Printed.{linesOf, stepLine}
 use Rattle.results.specs.Rows.{rowsBy, stepLines}
-use Rattle.results.specs.Widths.{stepWidest}
+use Rattle.printing.specs.Widths.{stepWidest}
 use Rattle.results.proofs.rows.put_steps.Statement.{statement}
 use Rattle.results.proofs.rows.put_steps.Tie as tie
 

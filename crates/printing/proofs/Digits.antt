@@ -11,7 +11,7 @@ use Rattle.messages.proofs.Chain.{last, left-of, right-of, skip}
 use Rattle.messages.specs.Tests.{all, between}
 use Rattle.lines.specs.Lines.{Text}
 use Rattle.steptext.specs.Text.{digit0, isDigit, isNumber, mostDigits, mostNumber, noNeedless0, valueFrom, valueOf}
-use Rattle.results.specs.Decimal.{ReadsBack, decimal, digits}
+use Rattle.printing.specs.Decimal.{ReadsBack, decimal, digits}
 
 -- 10 to a power
 tens : ℕ → ℕ

@@ -7,9 +7,9 @@ use lines::bytes::LINE_FEED;
 ghost use mathlib.Core.List.{[], _∷_};
 ghost use Prim.Native.Nat.{_+_, _≤_};
 ghost use lib.ListN.{length};
-ghost use Rattle.results.specs.Printed.{refusedLine, replyLine, stepLine};
-ghost use Rattle.results.specs.Put.{Put};
-ghost use Rattle.results.specs.Widths.{refusedWidest, replyWidest, stepWidest};
+ghost use Rattle.printing.specs.Printed.{refusedLine, replyLine, stepLine};
+ghost use Rattle.printing.specs.Put.{Put};
+ghost use Rattle.printing.specs.Widths.{refusedWidest, replyWidest, stepWidest};
 
 // The most bytes of the first two.
 pub const STEP_WIDEST: usize = 3 * CELL_WIDEST;

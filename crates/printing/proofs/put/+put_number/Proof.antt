@@ -1,17 +1,17 @@
--- `results::put::put_number` meets its promise. What is left of the number falls at each call.
+-- `printing::put::put_number` meets its promise. What is left of the number falls at each call.
 use Prim.Native.Nat.{ℕ, _<_}
 use borrow.Fn.Kinds.{In}
 use borrow.Fn.PlainCycle.{Measures, and, falls, is}
 use native.Mathlib.Omega.{arith}
-use Rattle.results.proofs.Digits.{decimal-longer, some}
-use Rattle.results.proofs.Writing.{number-more, number-one}
+use Rattle.printing.proofs.Digits.{decimal-longer, some}
+use Rattle.printing.proofs.Writing.{number-more, number-one}
 use Rattle.steptext.specs.Text.{mostDigits}
-use Rattle.results.proofs.put.put_byte.Reads as put-byte-reads
-use Rattle.results.proofs.put.put_number.Kinds as put-number-kinds
-use Rattle.results.proofs.put.put_number.Reads as put-number
-use Rattle.results.proofs.put.+put_number.Lts-put_number as lts
-use Rattle.results.proofs.put.+put_number.Tie.{close}
-use Rattle.results.proofs.put.+put_number.{statement}
+use Rattle.printing.proofs.put.put_byte.Reads as put-byte-reads
+use Rattle.printing.proofs.put.put_number.Kinds as put-number-kinds
+use Rattle.printing.proofs.put.put_number.Reads as put-number
+use Rattle.printing.proofs.put.+put_number.Lts-put_number as lts
+use Rattle.printing.proofs.put.+put_number.Tie.{close}
+use Rattle.printing.proofs.put.+put_number.{statement}
 
 abbrev μ : Measures 1 put-number-kinds.ps ℕ
 μ κs a = a .1 .1 .0

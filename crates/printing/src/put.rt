@@ -4,9 +4,9 @@ use steptext::numbers::MOST_DIGITS;
 ghost use mathlib.Core.List.{[], _∷_};
 ghost use Prim.Native.Nat.{_+_, _≤_};
 ghost use lib.ListN.{length};
-ghost use Rattle.results.specs.Decimal.{decimal};
-ghost use Rattle.results.specs.Put.{Put};
-ghost use Rattle.results.specs.Widths.{cellWidest};
+ghost use Rattle.printing.specs.Decimal.{decimal};
+ghost use Rattle.printing.specs.Put.{Put};
+ghost use Rattle.printing.specs.Widths.{cellWidest};
 ghost use Rattle.lines.specs.Lines.{tab};
 ghost use Rattle.steptext.specs.Text.{mostDigits};
 

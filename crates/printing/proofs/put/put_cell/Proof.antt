@@ -1,11 +1,11 @@
--- `results::put::put_cell` meets its promise.
+-- `printing::put::put_cell` meets its promise.
 use borrow.Author.Needs.{needs}
 use native.Mathlib.Omega.{arith}
-use Rattle.results.proofs.Digits.{short}
-use Rattle.results.proofs.Writing.{then}
+use Rattle.printing.proofs.Digits.{short}
+use Rattle.printing.proofs.Writing.{then}
 use Rattle.steptext.specs.Text.{mostDigits}
-use Rattle.results.proofs.put.put_cell.Statement.{statement}
-use Rattle.results.proofs.put.put_cell.Tie as tie
+use Rattle.printing.proofs.put.put_cell.Statement.{statement}
+use Rattle.printing.proofs.put.put_cell.Tie as tie
 
 put-number-requires : tie.Need-put-number-requires
 put-number-requires c κs =

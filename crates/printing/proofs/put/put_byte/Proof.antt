@@ -1,9 +1,9 @@
--- `results::put::put_byte` meets its promise.
+-- `printing::put::put_byte` meets its promise.
 use borrow.Author.Needs.{needs}
 use native.Mathlib.Omega.{arith}
-use Rattle.results.proofs.Writing.{one}
-use Rattle.results.proofs.put.put_byte.Statement.{statement}
-use Rattle.results.proofs.put.put_byte.Tie as tie
+use Rattle.printing.proofs.Writing.{one}
+use Rattle.printing.proofs.put.put_byte.Statement.{statement}
+use Rattle.printing.proofs.put.put_byte.Tie as tie
 
 returns : tie.Need-returns
 returns c = one (c .args .out .now) (c .args .at) (c .args .byte) (omega arith)

@@ -9,9 +9,9 @@ use lib.ListN.{drop, length, length-append, length-set, set, take, take-append-d
 use lib.Seq.{drop-at, drop-drop, length-take-le, set-split, take-at}
 use Rattle.lines.specs.Lines.{Text}
 use Rattle.steptext.specs.Text.{digit0, mostDigits, mostNumber}
-use Rattle.results.proofs.Digits.{decimal-longer, decimal-more, decimal-one, short}
-use Rattle.results.specs.Decimal.{decimal}
-use Rattle.results.specs.Put.{Put}
+use Rattle.printing.proofs.Digits.{decimal-longer, decimal-more, decimal-one, short}
+use Rattle.printing.specs.Decimal.{decimal}
+use Rattle.printing.specs.Put.{Put}
 
 -- one byte
 pub one : (out : List ℕ) (p b : ℕ) → p < length out → Put out p (b ∷ []) 1 (set out p b) (p + 1)

@@ -1,11 +1,11 @@
--- `results::printed::put_step_line` meets its promise.
+-- `printing::printed::put_step_line` meets its promise.
 use borrow.Author.Needs.{needs}
 use native.Mathlib.Omega.{arith}
-use Rattle.results.proofs.Digits.{short}
-use Rattle.results.proofs.Writing.{then}
+use Rattle.printing.proofs.Digits.{short}
+use Rattle.printing.proofs.Writing.{then}
 use Rattle.steptext.specs.Text.{mostDigits}
-use Rattle.results.proofs.printed.put_step_line.Statement.{statement}
-use Rattle.results.proofs.printed.put_step_line.Tie as tie
+use Rattle.printing.proofs.printed.put_step_line.Statement.{statement}
+use Rattle.printing.proofs.printed.put_step_line.Tie as tie
 
 put-number-requires : tie.Need-put-number-requires
 put-number-requires c κs =

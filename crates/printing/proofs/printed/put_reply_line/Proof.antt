@@ -1,9 +1,9 @@
--- `results::printed::put_reply_line` meets its promise.
+-- `printing::printed::put_reply_line` meets its promise.
 use borrow.Author.Needs.{needs}
 use native.Mathlib.Omega.{arith}
-use Rattle.results.proofs.Writing.{then}
-use Rattle.results.proofs.printed.put_reply_line.Statement.{statement}
-use Rattle.results.proofs.printed.put_reply_line.Tie as tie
+use Rattle.printing.proofs.Writing.{then}
+use Rattle.printing.proofs.printed.put_reply_line.Statement.{statement}
+use Rattle.printing.proofs.printed.put_reply_line.Tie as tie
 
 returns : tie.Need-returns
 returns c =

@@ -1,0 +1,4 @@
+pub mod Decimal
+pub mod Printed
+pub mod Put
+pub mod Widths
