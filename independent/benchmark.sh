@@ -12,7 +12,7 @@ export KP_LIB
 
 cd independent
 cargo build --release --offline --quiet --features compare --bin benchmark
-grep -m 1 '^model name' /proc/cpuinfo
+echo "processor	: $(lscpu | sed -n 's/^Model name: *//p')"
 echo "processors	: $(nproc)"
 echo "independent	: $(rustc --version), opt-level 3"
 echo "proved		: $(rt version)"
