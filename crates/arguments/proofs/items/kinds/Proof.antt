@@ -18,33 +18,6 @@ plain false = refl
 small : (x y : ℕ) → 97 ≤ x → y < 97 → eqb x y ≡ false
 small x y h l = ne-eqb x y (λ e. omega arith)
 
-returns : tie.Need-returns
-returns c = rw (c .match .keys1) refl
-
-returns-2 : tie.Need-returns-2
-returns-2 c = rw (c .match .keys2) refl
-
-returns-3 : tie.Need-returns-3
-returns-3 c = rw (c .match .keys3) refl
-
-returns-4 : tie.Need-returns-4
-returns-4 c = rw (c .match .keys4) refl
-
-returns-5 : tie.Need-returns-5
-returns-5 c = rw (c .match .keys5) refl
-
-returns-6 : tie.Need-returns-6
-returns-6 c = rw (c .match .keys6) refl
-
-returns-7 : tie.Need-returns-7
-returns-7 c = rw (c .match .keys7) refl
-
-returns-8 : tie.Need-returns-8
-returns-8 c = rw (c .match .keys8) refl
-
-returns-9 : tie.Need-returns-9
-returns-9 c = rw (c .match .keys9) refl
-
 returns-10 : tie.Need-returns-10
 returns-10 c =
     let h = c .match .rest in
@@ -53,4 +26,4 @@ returns-10 c =
     simp (ne-eqb _ 97 (h .0 .0 .0 .0 .0 .0 .0 .0 .1), ne-eqb _ 101 (h .0 .0 .0 .0 .0 .0 .0 .1), ne-eqb _ 103 (h .0 .0 .0 .0 .0 .0 .1), ne-eqb _ 104 (h .0 .0 .0 .0 .0 .1), ne-eqb _ 109 (h .0 .0 .0 .0 .1), ne-eqb _ 112 (h .0 .0 .0 .1), ne-eqb _ 113 (h .0 .0 .1), ne-eqb _ 114 (h .0 .1), ne-eqb _ 118 (h .1), small the-letter 73 the-pre (omega arith), small the-letter 86 the-pre (omega arith), small the-letter 80 the-pre (omega arith), small the-letter 81 the-pre (omega arith), small the-letter 82 the-pre (omega arith), small the-letter 66 the-pre (omega arith), small the-letter 83 the-pre (omega arith)) (plain (eqb the-letter 99))
 
 pub kinds-spec : {M : Type 1} → statement M
-kinds-spec = tie.close (tie.spec returns returns-2 returns-3 returns-4 returns-5 returns-6 returns-7 returns-8 returns-9 returns-10)
+kinds-spec = tie.close (tie.spec (λ c. rw (c .match .keys1) refl) (λ c. rw (c .match .keys2) refl) (λ c. rw (c .match .keys3) refl) (λ c. rw (c .match .keys4) refl) (λ c. rw (c .match .keys5) refl) (λ c. rw (c .match .keys6) refl) (λ c. rw (c .match .keys7) refl) (λ c. rw (c .match .keys8) refl) (λ c. rw (c .match .keys9) refl) returns-10)

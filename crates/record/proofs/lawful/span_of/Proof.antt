@@ -4,31 +4,10 @@ use mathlib.Core.Path.{refl}
 use Rattle.record.proofs.lawful.span_of.Statement.{statement}
 use Rattle.record.proofs.lawful.span_of.Tie as tie
 
-returns : tie.Need-returns
-returns c = rw (c .match .keys1) refl
-
-returns-2 : tie.Need-returns-2
-returns-2 c = rw (c .match .keys2) refl
-
-returns-3 : tie.Need-returns-3
-returns-3 c = rw (c .match .keys3) refl
-
-returns-4 : tie.Need-returns-4
-returns-4 c = rw (c .match .keys4) refl
-
-returns-5 : tie.Need-returns-5
-returns-5 c = rw (c .match .keys5) refl
-
-returns-6 : tie.Need-returns-6
-returns-6 c = rw (c .match .keys6) refl
-
-returns-7 : tie.Need-returns-7
-returns-7 c = rw (c .match .keys7) refl
-
 returns-8 : tie.Need-returns-8
 returns-8 c =
     let h = c .match .rest in
     simp (ne-eqb _ 75 (h .0 .0 .0 .0 .0 .0 .1), ne-eqb _ 66 (h .0 .0 .0 .0 .0 .1), ne-eqb _ 83 (h .0 .0 .0 .0 .1), ne-eqb _ 65 (h .0 .0 .0 .1), ne-eqb _ 71 (h .0 .0 .1), ne-eqb _ 68 (h .0 .1), ne-eqb _ 67 (h .1)) refl
 
 pub span-of-spec : {M : Type 1} → statement M
-span-of-spec = tie.close (tie.spec returns returns-2 returns-3 returns-4 returns-5 returns-6 returns-7 returns-8)
+span-of-spec = tie.close (tie.spec (λ c. rw (c .match .keys1) refl) (λ c. rw (c .match .keys2) refl) (λ c. rw (c .match .keys3) refl) (λ c. rw (c .match .keys4) refl) (λ c. rw (c .match .keys5) refl) (λ c. rw (c .match .keys6) refl) (λ c. rw (c .match .keys7) refl) returns-8)
