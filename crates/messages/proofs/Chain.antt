@@ -4,7 +4,7 @@ use mathlib.Core.List.{List, [], _∷_, _++_}
 use mathlib.Core.Path.{_≡_, _∙_, refl, sym, ap, subst}
 use Prim.Native.Nat.{ℕ, _≤_, _<_}
 use native.Mathlib.Omega.{arith}
-use borrow.Author.Tests.{le-leb, lt-leb}
+use borrow.Author.Tests.{le-leb, lt-leb, not-false, not-true}
 use lib.Dec.{eqb}
 use lib.ListN.{length}
 use Rattle.messages.specs.Tests.{between, same}
@@ -17,6 +17,13 @@ stop b p = subst (λ (x : Bool). false ≡ (x && b)) (sym p) refl
 
 pub last : {a r : Bool} → r ≡ a → r ≡ (a && true)
 last {a} p = p ∙ sym (and-true a)
+
+-- code that returns at `!f(..)`: what the promise `r ≡ a` of that call says where the code went on, and where it returned
+pub held : {a r : Bool} → r ≡ a → not r ≡ false → a ≡ true
+held p q = sym p ∙ not-false _ q
+
+pub failed : {a r : Bool} → r ≡ a → not r ≡ true → a ≡ false
+failed p q = sym p ∙ not-true _ q
 
 -- both of two tests that passed together
 pub left-of : (a b : Bool) → (a && b) ≡ true → a ≡ true

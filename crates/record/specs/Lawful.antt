@@ -40,16 +40,27 @@ markRanges = sellers ∷ buyers ∷ hashedRanges
 abbrev pub slipRanges : List Range
 slipRanges = gateways ∷ (markRanges ++ (accounts ∷ buyers ∷ draws ∷ []))
 
+-- the signatures
+abbrev pub invoiceSignedRanges : List Range
+invoiceSignedRanges = sellers ∷ markRanges
+
+abbrev pub buyerSignedRanges : List Range
+buyerSignedRanges = buyers ∷ (slipRanges ++ markRanges)
+
+abbrev pub requestSignedRanges : List Range
+requestSignedRanges = sellers ∷ (markRanges ++ slipRanges)
+
+abbrev pub replySignedRanges : List Range
+replySignedRanges = gateways ∷ codes ∷ markRanges
+
 -- the kinds, 1 to 5: kind, maker, source, destination, parts
 abbrev pub kindRanges : List (List Range)
 kindRanges =
     filled messageWidth unused (kinds ∷ buyers ∷ buyers ∷ sellers ∷ hashedRanges)
-    ∷ filled messageWidth unused (kinds ∷ sellers ∷ sellers ∷ buyers ∷ (markRanges ++ (sellers ∷ markRanges)))
-    ∷ filled messageWidth unused (kinds ∷ buyers ∷ buyers ∷ sellers ∷ (slipRanges ++ (buyers ∷ (slipRanges ++ markRanges))))
-    ∷ filled messageWidth unused
-    (kinds ∷ sellers ∷ sellers ∷ gateways
-    ∷ (markRanges ++ slipRanges ++ (sellers ∷ (markRanges ++ slipRanges)) ++ (buyers ∷ (slipRanges ++ markRanges))))
-    ∷ filled messageWidth unused (kinds ∷ gateways ∷ gateways ∷ sellers ∷ codes ∷ gateways ∷ codes ∷ markRanges)
+    ∷ filled messageWidth unused (kinds ∷ sellers ∷ sellers ∷ buyers ∷ (markRanges ++ invoiceSignedRanges))
+    ∷ filled messageWidth unused (kinds ∷ buyers ∷ buyers ∷ sellers ∷ (slipRanges ++ buyerSignedRanges))
+    ∷ filled messageWidth unused (kinds ∷ sellers ∷ sellers ∷ gateways ∷ (markRanges ++ slipRanges ++ requestSignedRanges ++ buyerSignedRanges))
+    ∷ filled messageWidth unused (kinds ∷ gateways ∷ gateways ∷ sellers ∷ codes ∷ replySignedRanges)
     ∷ []
 
 -- each number in the range beside it, and as many numbers as ranges

@@ -1,9 +1,8 @@
 -- `arguments::faults::place_fault` meets its promise.
 use borrow.Author.Needs.{needs}
-use borrow.Author.Tests.{not-false, not-true}
 use mathlib.Core.Path.{_∙_, ap, refl, sym}
 use Rattle.record.proofs.Cut.{message-at}
-use Rattle.messages.proofs.Chain.{above, below, inside}
+use Rattle.messages.proofs.Chain.{above, below, failed, held, inside}
 use Rattle.messages.proofs.Picks.{no, yes}
 use Rattle.arguments.specs.Letters.{argumentLettered, offers}
 use Rattle.arguments.proofs.faults.place_fault.Statement.{statement}
@@ -24,7 +23,7 @@ returns-3 c =
     yes _ (inside (the-if1 .left) (the-if2 .left))
     (no _
     (ap (offers (argumentLettered (the-args .letter))) (message-at (the-args .n) (the-args .t .now) (record { 0 = the-args .x }) (the-if1 .left) (the-if2 .left) ∙ sym (the-message .ensures .0))
-    ∙ sym (c .before .yields .ensures) ∙ not-true _ (c .if3 .taken))
+    ∙ failed (c .before .yields .ensures) (c .if3 .taken))
     refl)
 
 returns-4 : tie.Need-returns-4
@@ -36,7 +35,7 @@ returns-4 c =
     yes _ (inside (the-if1 .left) (the-if2 .left))
     (yes _
     (ap (offers (argumentLettered (the-args .letter))) (message-at (the-args .n) (the-args .t .now) (record { 0 = the-args .x }) (the-if1 .left) (the-if2 .left) ∙ sym (the-message .ensures .0))
-    ∙ sym (c .before .yields .ensures) ∙ not-false _ (c .if3 .left))
+    ∙ held (c .before .yields .ensures) (c .if3 .left))
     refl)
 
 pub place-fault-spec : {M : Type 1} → statement M

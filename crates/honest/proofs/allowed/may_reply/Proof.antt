@@ -1,17 +1,16 @@
 -- `honest::allowed::may_reply` meets its promise.
 use borrow.Author.Needs.{needs}
-use borrow.Author.Tests.{not-false, not-true}
 use mathlib.Core.Path.{_∙_, refl, sym}
 use native.Mathlib.Omega.{arith}
 use Rattle.honest.proofs.Parted.{reply-parts}
-use Rattle.messages.proofs.Chain.{skip, stop}
+use Rattle.messages.proofs.Chain.{failed, held, skip, stop}
 use Rattle.honest.proofs.allowed.may_reply.Statement.{statement}
 use Rattle.honest.proofs.allowed.may_reply.Tie as tie
 
 returns : tie.Need-returns
 returns c =
     let the-args = c .before .before .before .args in
-    stop _ (sym (c .before .is-for-house .ensures) ∙ not-true _ (c .if1 .taken)) ∙ sym (reply-parts (the-args .request .now) refl refl refl refl)
+    stop _ (failed (c .before .is-for-house .ensures) (c .if1 .taken)) ∙ sym (reply-parts (the-args .request .now) refl refl refl refl)
 
 returns-2 : tie.Need-returns-2
 returns-2 c =
@@ -20,7 +19,7 @@ returns-2 c =
     let the-if1 = c .before .before .before .before .before .if1 in
     let the-is-for-house = c .before .before .before .before .before .before .is-for-house in
     let the-args = c .before .before .before .before .before .before .before .before .args in
-    skip (sym (the-is-for-house .ensures) ∙ not-false _ (the-if1 .left)) (stop _ (sym (c .before .mark-is .ensures) ∙ not-true _ (c .if2 .taken))) ∙ sym (reply-parts (the-args .request .now) (the-mark-at .ensures) (the-slip-at .ensures) refl refl)
+    skip (held (the-is-for-house .ensures) (the-if1 .left)) (stop _ (failed (c .before .mark-is .ensures) (c .if2 .taken))) ∙ sym (reply-parts (the-args .request .now) (the-mark-at .ensures) (the-slip-at .ensures) refl refl)
 
 returns-3 : tie.Need-returns-3
 returns-3 c =
@@ -32,7 +31,7 @@ returns-3 c =
     let the-if1 = c .before .before .before .before .before .before .before .before .if1 in
     let the-is-for-house = c .before .before .before .before .before .before .before .before .before .is-for-house in
     let the-args = c .before .before .before .before .before .before .before .before .before .before .before .args in
-    skip (sym (the-is-for-house .ensures) ∙ not-false _ (the-if1 .left)) (skip (sym (the-mark-is .ensures) ∙ not-false _ (the-if2 .left)) (stop _ (sym (c .before .same-mark .ensures) ∙ not-true _ (c .if3 .taken)))) ∙ sym (reply-parts (the-args .request .now) (the-mark-at .ensures) (the-slip-at .ensures) (the-rebuilt-mark .ensures) refl)
+    skip (held (the-is-for-house .ensures) (the-if1 .left)) (skip (held (the-mark-is .ensures) (the-if2 .left)) (stop _ (failed (c .before .same-mark .ensures) (c .if3 .taken)))) ∙ sym (reply-parts (the-args .request .now) (the-mark-at .ensures) (the-slip-at .ensures) (the-rebuilt-mark .ensures) refl)
 
 returns-4 : tie.Need-returns-4
 returns-4 c =
@@ -46,7 +45,7 @@ returns-4 c =
     let the-if1 = c .before .before .before .before .before .before .before .before .before .before .if1 in
     let the-is-for-house = c .before .before .before .before .before .before .before .before .before .before .before .is-for-house in
     let the-args = c .before .before .before .before .before .before .before .before .before .before .before .before .before .args in
-    skip (sym (the-is-for-house .ensures) ∙ not-false _ (the-if1 .left)) (skip (sym (the-mark-is .ensures) ∙ not-false _ (the-if2 .left)) (skip (sym (the-same-mark .ensures) ∙ not-false _ (the-if3 .left)) (stop _ (sym (c .before .is-signed-by-seller .ensures) ∙ not-true _ (c .if4 .taken))))) ∙ sym (reply-parts (the-args .request .now) (the-mark-at .ensures) (the-slip-at .ensures) (the-rebuilt-mark .ensures) refl)
+    skip (held (the-is-for-house .ensures) (the-if1 .left)) (skip (held (the-mark-is .ensures) (the-if2 .left)) (skip (held (the-same-mark .ensures) (the-if3 .left)) (stop _ (failed (c .before .is-signed-by-seller .ensures) (c .if4 .taken))))) ∙ sym (reply-parts (the-args .request .now) (the-mark-at .ensures) (the-slip-at .ensures) (the-rebuilt-mark .ensures) refl)
 
 returns-5 : tie.Need-returns-5
 returns-5 c =
@@ -62,7 +61,7 @@ returns-5 c =
     let the-if1 = c .before .before .before .before .before .before .before .before .before .before .before .before .if1 in
     let the-is-for-house = c .before .before .before .before .before .before .before .before .before .before .before .before .before .is-for-house in
     let the-args = c .before .before .before .before .before .before .before .before .before .before .before .before .before .before .before .args in
-    skip (sym (the-is-for-house .ensures) ∙ not-false _ (the-if1 .left)) (skip (sym (the-mark-is .ensures) ∙ not-false _ (the-if2 .left)) (skip (sym (the-same-mark .ensures) ∙ not-false _ (the-if3 .left)) (skip (sym (the-is-signed-by-seller .ensures) ∙ not-false _ (the-if4 .left)) (stop _ (sym (c .before .slip-is .ensures) ∙ not-true _ (c .if5 .taken)))))) ∙ sym (reply-parts (the-args .request .now) (the-mark-at .ensures) (the-slip-at .ensures) (the-rebuilt-mark .ensures) refl)
+    skip (held (the-is-for-house .ensures) (the-if1 .left)) (skip (held (the-mark-is .ensures) (the-if2 .left)) (skip (held (the-same-mark .ensures) (the-if3 .left)) (skip (held (the-is-signed-by-seller .ensures) (the-if4 .left)) (stop _ (failed (c .before .slip-is .ensures) (c .if5 .taken)))))) ∙ sym (reply-parts (the-args .request .now) (the-mark-at .ensures) (the-slip-at .ensures) (the-rebuilt-mark .ensures) refl)
 
 is-signed-by-buyer-requires : tie.Need-is-signed-by-buyer-requires
 is-signed-by-buyer-requires c κs =
@@ -85,7 +84,7 @@ returns-6 c =
     let the-if1 = c .before .before .before .before .before .before .before .before .before .before .before .before .before .before .if1 in
     let the-is-for-house = c .before .before .before .before .before .before .before .before .before .before .before .before .before .before .before .is-for-house in
     let the-args = c .before .before .before .before .before .before .before .before .before .before .before .before .before .before .before .before .before .args in
-    skip (sym (the-is-for-house .ensures) ∙ not-false _ (the-if1 .left)) (skip (sym (the-mark-is .ensures) ∙ not-false _ (the-if2 .left)) (skip (sym (the-same-mark .ensures) ∙ not-false _ (the-if3 .left)) (skip (sym (the-is-signed-by-seller .ensures) ∙ not-false _ (the-if4 .left)) (skip (sym (the-slip-is .ensures) ∙ not-false _ (the-if5 .left)) (c .is-signed-by-buyer .ensures))))) ∙ sym (reply-parts (the-args .request .now) (the-mark-at .ensures) (the-slip-at .ensures) (the-rebuilt-mark .ensures) (c .before .owner .ensures))
+    skip (held (the-is-for-house .ensures) (the-if1 .left)) (skip (held (the-mark-is .ensures) (the-if2 .left)) (skip (held (the-same-mark .ensures) (the-if3 .left)) (skip (held (the-is-signed-by-seller .ensures) (the-if4 .left)) (skip (held (the-slip-is .ensures) (the-if5 .left)) (c .is-signed-by-buyer .ensures))))) ∙ sym (reply-parts (the-args .request .now) (the-mark-at .ensures) (the-slip-at .ensures) (the-rebuilt-mark .ensures) (c .before .owner .ensures))
 
 pub may-reply-spec : {M : Type 1} → statement M
 may-reply-spec =

@@ -1,11 +1,11 @@
 -- `messages::parts::same_slip` meets its promise.
 use Prim.Native.Nat.{ℕ}
 use borrow.Author.Needs.{needs}
-use borrow.Author.Tests.{eq-eqb, ne-eqb, not-false, not-true}
+use borrow.Author.Tests.{eq-eqb, ne-eqb}
 use mathlib.Core.Bool.{Bool, _&&_}
 use mathlib.Core.List.{List, _∷_}
 use mathlib.Core.Path.{_∙_, _≡_, refl, sym}
-use Rattle.messages.proofs.Chain.{same-parts, skip, stop}
+use Rattle.messages.proofs.Chain.{failed, held, same-parts, skip, stop}
 use Rattle.messages.specs.Parts.{drawnNumbers, markNumbers, sameMark, sameSlip}
 use Rattle.messages.specs.Tests.{same}
 use Rattle.messages.specs.declared.parts.Slip.{Slip}
@@ -26,7 +26,7 @@ returns-2 : tie.Need-returns-2
 returns-2 c =
     let the-if1 = c .before .before .if1 in
     let the-args = c .before .before .before .before .before .args in
-    past-mark (the-args .a) (the-args .b) (the-if1 .left) (stop _ (sym (c .before .same-mark .ensures) ∙ not-true _ (c .if2 .taken)))
+    past-mark (the-args .a) (the-args .b) (the-if1 .left) (stop _ (failed (c .before .same-mark .ensures) (c .if2 .taken)))
 
 returns-3 : tie.Need-returns-3
 returns-3 c =
@@ -34,7 +34,7 @@ returns-3 c =
     let the-same-mark = c .before .before .before .before .same-mark in
     let the-if1 = c .before .before .before .before .before .if1 in
     let the-args = c .before .before .before .before .before .before .before .before .args in
-    past-mark (the-args .a) (the-args .b) (the-if1 .left) (skip (sym (the-same-mark .ensures) ∙ not-false _ (the-if2 .left)) (stop _ (ne-eqb _ _ (c .if3 .taken))))
+    past-mark (the-args .a) (the-args .b) (the-if1 .left) (skip (held (the-same-mark .ensures) (the-if2 .left)) (stop _ (ne-eqb _ _ (c .if3 .taken))))
 
 returns-4 : tie.Need-returns-4
 returns-4 c =
@@ -42,7 +42,7 @@ returns-4 c =
     let the-same-mark = c .before .before .before .before .before .same-mark in
     let the-if1 = c .before .before .before .before .before .before .if1 in
     let the-args = c .before .before .before .before .before .before .before .before .before .args in
-    past-mark (the-args .a) (the-args .b) (the-if1 .left) (skip (sym (the-same-mark .ensures) ∙ not-false _ (the-if2 .left)) (skip (eq-eqb _ _ (c .before .if3 .left)) (c .same-drawn .ensures)))
+    past-mark (the-args .a) (the-args .b) (the-if1 .left) (skip (held (the-same-mark .ensures) (the-if2 .left)) (skip (eq-eqb _ _ (c .before .if3 .left)) (c .same-drawn .ensures)))
 
 pub same-slip-spec : {M : Type 1} → statement M
 same-slip-spec =

@@ -27,10 +27,6 @@ returns c =
     let the-loop-test = c .before .before .before .loop-test in
     let the-loop = c .before .before .before .before .loop in
     let the-args = c .before .before .before .before .before .before .before .before .args in
-    let the-message = the-message in
-    let the-loop-test = the-loop-test in
-    let the-loop = the-loop in
-    let the-args = the-args in
     leaves (c .before .is-lawful-by .result) _ (test-next lawful (the-args .n) (the-args .t .now) (the-loop .i) _ (the-loop-test .taken) (the-message .ensures .0) (c .before .is-lawful-by .ensures)) (c .if1 .taken)
     ∙ the-loop .inv .1
 
@@ -39,11 +35,7 @@ loop-again c =
     let the-message = c .before .before .message in
     let the-loop-test = c .before .before .before .loop-test in
     let the-loop = c .before .before .before .before .loop in
-    let the-args = c .before .before .before .before .before .before .before .before .args in
-    let the-message = the-message in
-    let the-loop-test = the-loop-test in
-    let the-loop = the-loop in
-    let the-args = the-args in (
+    let the-args = c .before .before .before .before .before .before .before .before .args in (
       omega arith,
       goes-on (c .before .is-lawful-by .result) _ (test-next lawful (the-args .n) (the-args .t .now) (the-loop .i) _ (the-loop-test .taken) (the-message .ensures .0) (c .before .is-lawful-by .ensures)) (c .if1 .left)
           ∙ the-loop .inv .1,
@@ -52,7 +44,6 @@ loop-again c =
 returns-2 : tie.Need-returns-2 Inv-loop μ-loop
 returns-2 c =
     let the-args = c .before .before .before .before .before .args in
-    let the-args = the-args in
     sym (test-over lawful (the-args .n) (the-args .t .now) (c .before .loop .i) (omega arith)) ∙ c .before .loop .inv .1
 
 pub are-lawful-spec : {M : Type 1} → statement M

@@ -1,9 +1,8 @@
 -- `reports::report::reply_at` meets its promise.
 use borrow.Author.Needs.{needs}
-use borrow.Author.Tests.{not-false, not-true}
 use mathlib.Core.Path.{_∙_, ap, refl, sym}
 use native.Mathlib.Omega.{arith}
-use Rattle.messages.proofs.Chain.{above, below, inside}
+use Rattle.messages.proofs.Chain.{above, below, failed, held, inside}
 use Rattle.messages.proofs.Picks.{no, yes}
 use Rattle.messages.specs.declared.signed.ReplySigned.{ReplySigned}
 use Rattle.record.proofs.Cut.{message-at}
@@ -30,7 +29,7 @@ returns-3 c =
     let the-if2 = c .before .before .before .before .if2 in
     let the-if1 = c .before .before .before .before .before .if1 in
     let the-args = c .before .before .before .before .before .before .before .args in
-    no-reply-at (the-args .n) (the-args .t .now) (the-args .place) 5 (λ z. omega arith) (c .no-reply3 .ensures) (yes _ (inside (the-if1 .left) (the-if2 .left)) (no _ (ap houseReply (message-at (the-args .n) (the-args .t .now) (the-args .place) (the-if1 .left) (the-if2 .left) ∙ sym (the-message .ensures .0)) ∙ sym (the-is-house-reply .ensures) ∙ not-true _ (c .before .if3 .taken)) refl))
+    no-reply-at (the-args .n) (the-args .t .now) (the-args .place) 5 (λ z. omega arith) (c .no-reply3 .ensures) (yes _ (inside (the-if1 .left) (the-if2 .left)) (no _ (ap houseReply (message-at (the-args .n) (the-args .t .now) (the-args .place) (the-if1 .left) (the-if2 .left) ∙ sym (the-message .ensures .0)) ∙ failed (the-is-house-reply .ensures) (c .before .if3 .taken)) refl))
 
 returns-4 : tie.Need-returns-4
 returns-4 c =
@@ -40,7 +39,7 @@ returns-4 c =
     let the-if2 = c .before .before .before .before .before .if2 in
     let the-if1 = c .before .before .before .before .before .before .if1 in
     let the-args = c .before .before .before .before .before .before .before .before .args in
-    let there = message-at (the-args .n) (the-args .t .now) (the-args .place) (the-if1 .left) (the-if2 .left) ∙ sym (the-message .ensures .0) in record { refusal = yes _ (inside (the-if1 .left) (the-if2 .left)) (yes _ (ap houseReply there ∙ sym (the-is-house-reply .ensures) ∙ not-false _ (the-if3 .left)) refl); within = omega arith; earlier = λ z. refl; mark = λ z. ap (λ (x : ReplySigned). x .mark) (c .before .reply-signed-at .ensures) ∙ ap replyMark (sym there) }
+    let there = message-at (the-args .n) (the-args .t .now) (the-args .place) (the-if1 .left) (the-if2 .left) ∙ sym (the-message .ensures .0) in record { refusal = yes _ (inside (the-if1 .left) (the-if2 .left)) (yes _ (ap houseReply there ∙ held (the-is-house-reply .ensures) (the-if3 .left)) refl); within = omega arith; earlier = λ z. refl; mark = λ z. ap (λ (x : ReplySigned). x .mark) (c .before .reply-signed-at .ensures) ∙ ap replyMark (sym there) }
 
 pub reply-at-spec : {M : Type 1} → statement M
 reply-at-spec =

@@ -1,8 +1,9 @@
 -- `step::judge::judge_step` meets its promise.
 use borrow.Author.Needs.{needs}
-use borrow.Author.Tests.{le-ltb, leb-false, leb-true, lt-ltb, not-false, not-true}
+use borrow.Author.Tests.{le-ltb, leb-false, leb-true, lt-ltb}
 use mathlib.Core.Path.{_∙_, refl, sym}
 use native.Mathlib.Omega.{arith}
+use Rattle.messages.proofs.Chain.{failed, held}
 use Rattle.arguments.proofs.Places.{for-table, without-row}
 use Rattle.arguments.proofs.Takes.{known-step}
 use Rattle.record.proofs.Whole.{most, under-most}
@@ -19,20 +20,20 @@ shared-slice-read-code c =
 returns : tie.Need-returns
 returns c =
     let the-args = c .before .before .before .before .before .before .args in
-    refuses (the-args .n) (the-args .t .now) (unknown (the-args .answers) (the-args .n) (the-args .t .now) (the-args .s .now) (sym (c .before .is-known .ensures) ∙ not-true _ (c .if1 .taken)))
+    refuses (the-args .n) (the-args .t .now) (unknown (the-args .answers) (the-args .n) (the-args .t .now) (the-args .s .now) (failed (c .before .is-known .ensures) (c .if1 .taken)))
 
 cast-row-of : tie.Need-cast-row-of
 cast-row-of c =
     let the-args = c .before .before .before .before .before .before .args in
     let the-pre = c .before .before .before .before .before .before .pre in
-    let k = known-step {s = the-args .s .now} (the-pre .3) (sym (c .before .is-known .ensures) ∙ not-false _ (c .if1 .left)) refl in
+    let k = known-step {s = the-args .s .now} (the-pre .3) (held (c .before .is-known .ensures) (c .if1 .left)) refl in
     omega (arith, k .high)
 
 row-of-requires : tie.Need-row-of-requires
 row-of-requires c κs =
     let the-args = c .before .before .before .before .before .before .args in
     let the-pre = c .before .before .before .before .before .before .pre in
-    let k = known-step {s = the-args .s .now} (the-pre .3) (sym (c .before .is-known .ensures) ∙ not-false _ (c .if1 .left)) refl in
+    let k = known-step {s = the-args .s .now} (the-pre .3) (held (c .before .is-known .ensures) (c .if1 .left)) refl in
     (the-pre .2, k .low, k .high)
 
 first-fault-requires : tie.Need-first-fault-requires
@@ -40,7 +41,7 @@ first-fault-requires c κs =
     let the-if1 = c .before .before .if1 in
     let the-is-known = c .before .before .before .is-known in
     let the-pre = c .before .before .before .before .before .before .before .before .pre in
-    let known = sym (the-is-known .ensures) ∙ not-false _ (the-if1 .left) in
+    let known = held (the-is-known .ensures) (the-if1 .left) in
     (omega (arith, the-pre .1), known-step (the-pre .3) known (c .before .row-of .ensures))
 
 returns-2 : tie.Need-returns-2
@@ -48,7 +49,7 @@ returns-2 c =
     let the-if1 = c .before .before .before .before .if1 in
     let the-is-known = c .before .before .before .before .before .is-known in
     let the-args = c .before .before .before .before .before .before .before .before .before .before .args in
-    let known = sym (the-is-known .ensures) ∙ not-false _ (the-if1 .left) in
+    let known = held (the-is-known .ensures) (the-if1 .left) in
     refuses (the-args .n) (the-args .t .now) (faulty (the-args .answers) (the-args .n) (the-args .t .now) (the-args .s .now) known (c .before .first-fault .result) (c .before .first-fault .ensures) (c .if2 .taken))
 
 is-allowed-requires : tie.Need-is-allowed-requires
@@ -59,7 +60,7 @@ is-allowed-requires c κs =
     let the-is-known = c .before .before .before .before .before .before .is-known in
     let the-args = c .before .before .before .before .before .before .before .before .before .before .before .args in
     let the-pre = c .before .before .before .before .before .before .before .before .before .before .before .pre in
-    let known = sym (the-is-known .ensures) ∙ not-false _ (the-if1 .left) in
+    let known = held (the-is-known .ensures) (the-if1 .left) in
     for-table (without-row (ready (the-args .answers) (the-args .n) (the-args .t .now) (the-args .s .now) known (sym (c .before .if2 .left) ∙ the-first-fault .ensures) (known-step (the-pre .3) known (the-row-of .ensures)) (omega (arith, the-pre .1))))
 
 returns-3 : tie.Need-returns-3
@@ -72,10 +73,10 @@ returns-3 c =
     let the-is-known = c .before .before .before .before .before .before .before .before .before .before .is-known in
     let the-args = c .before .before .before .before .before .before .before .before .before .before .before .before .before .before .before .args in
     let the-pre = c .before .before .before .before .before .before .before .before .before .before .before .before .before .before .before .pre in
-    let known = sym (the-is-known .ensures) ∙ not-false _ (the-if1 .left) in
+    let known = held (the-is-known .ensures) (the-if1 .left) in
     let fine = sym (the-if2 .left) ∙ the-first-fault .ensures in
     let told = the-is-allowed .ensures (the-args .n) (without-row (ready (the-args .answers) (the-args .n) (the-args .t .now) (the-args .s .now) known fine (known-step (the-pre .3) known (the-row-of .ensures)) (omega (arith, the-pre .1)))) in
-    refuses (the-args .n) (the-args .t .now) (not-allowed (the-args .answers) (the-args .n) (the-args .t .now) (the-args .s .now) known fine (sym told ∙ not-true _ (c .if3 .taken)))
+    refuses (the-args .n) (the-args .t .now) (not-allowed (the-args .answers) (the-args .n) (the-args .t .now) (the-args .s .now) known fine (failed told (c .if3 .taken)))
 
 returns-4 : tie.Need-returns-4
 returns-4 c =
@@ -88,10 +89,10 @@ returns-4 c =
     let the-is-known = c .before .before .before .before .before .before .before .before .before .before .before .is-known in
     let the-args = c .before .before .before .before .before .before .before .before .before .before .before .before .before .before .before .before .args in
     let the-pre = c .before .before .before .before .before .before .before .before .before .before .before .before .before .before .before .before .pre in
-    let known = sym (the-is-known .ensures) ∙ not-false _ (the-if1 .left) in
+    let known = held (the-is-known .ensures) (the-if1 .left) in
     let fine = sym (the-if2 .left) ∙ the-first-fault .ensures in
     let told = the-is-allowed .ensures (the-args .n) (without-row (ready (the-args .answers) (the-args .n) (the-args .t .now) (the-args .s .now) known fine (known-step (the-pre .3) known (the-row-of .ensures)) (omega (arith, the-pre .1)))) in
-    refuses (the-args .n) (the-args .t .now) (full (the-args .answers) (the-args .n) (the-args .t .now) (the-args .s .now) known fine (sym told ∙ not-false _ (c .before .if3 .left)) (le-ltb (the-args .n) (roomOf (the-args .t .now)) (omega (arith, leb-true (the-room .result) (the-args .n) (c .if4 .taken), the-room .ensures))))
+    refuses (the-args .n) (the-args .t .now) (full (the-args .answers) (the-args .n) (the-args .t .now) (the-args .s .now) known fine (held told (c .before .if3 .left)) (le-ltb (the-args .n) (roomOf (the-args .t .now)) (omega (arith, leb-true (the-room .result) (the-args .n) (c .if4 .taken), the-room .ensures))))
 
 added-requires : tie.Need-added-requires
 added-requires c κs =
@@ -102,7 +103,7 @@ added-requires c κs =
     let the-is-known = c .before .before .before .before .before .before .before .before .before .before .before .before .is-known in
     let the-args = c .before .before .before .before .before .before .before .before .before .before .before .before .before .before .before .before .before .args in
     let the-pre = c .before .before .before .before .before .before .before .before .before .before .before .before .before .before .before .before .before .pre in
-    let known = sym (the-is-known .ensures) ∙ not-false _ (the-if1 .left) in
+    let known = held (the-is-known .ensures) (the-if1 .left) in
     (ready (the-args .answers) (the-args .n) (the-args .t .now) (the-args .s .now) known (sym (the-if2 .left) ∙ the-first-fault .ensures) (known-step (the-pre .3) known (the-row-of .ensures)) (omega (arith, the-pre .1)), omega (arith, the-pre .1, most (the-args .t .now) (the-pre .0)))
 
 write-requires : tie.Need-write-requires
@@ -127,11 +128,11 @@ returns-5 c =
     let the-is-known = c .before .before .before .before .before .before .before .before .before .before .before .before .before .before .before .before .before .before .is-known in
     let the-args = c .before .before .before .before .before .before .before .before .before .before .before .before .before .before .before .before .before .before .before .before .before .before .before .args in
     let the-pre = c .before .before .before .before .before .before .before .before .before .before .before .before .before .before .before .before .before .before .before .before .before .before .before .pre in
-    let known = sym (the-is-known .ensures) ∙ not-false _ (the-if1 .left) in
+    let known = held (the-is-known .ensures) (the-if1 .left) in
     let fine = sym (the-if2 .left) ∙ the-first-fault .ensures in
     let told = the-is-allowed .ensures (the-args .n) (without-row (ready (the-args .answers) (the-args .n) (the-args .t .now) (the-args .s .now) known fine (known-step (the-pre .3) known (the-row-of .ensures)) (omega (arith, the-pre .1)))) in
     let more = leb-false (the-room .result) (the-args .n) (the-if4 .left) in
-    accepts (the-args .n) (the-args .t .now) (the-added .result) (taken (the-args .answers) (the-args .n) (the-args .t .now) (the-args .s .now) known fine (sym told ∙ not-false _ (the-if3 .left)) (lt-ltb (the-args .n) (roomOf (the-args .t .now)) (omega (arith, more, the-room .ensures))) (the-added .ensures)) (the-write .ensures) (under-most (the-args .n) (the-args .t .now) (the-pre .0) (omega (arith, more, the-room .ensures)))
+    accepts (the-args .n) (the-args .t .now) (the-added .result) (taken (the-args .answers) (the-args .n) (the-args .t .now) (the-args .s .now) known fine (held told (the-if3 .left)) (lt-ltb (the-args .n) (roomOf (the-args .t .now)) (omega (arith, more, the-room .ensures))) (the-added .ensures)) (the-write .ensures) (under-most (the-args .n) (the-args .t .now) (the-pre .0) (omega (arith, more, the-room .ensures)))
 
 pub judge-step-spec : {M : Type 1} → statement M
 judge-step-spec =

@@ -1,9 +1,8 @@
 -- `steptext::numbers::read_number` meets its promise.
 use Prim.Native.Nat.{_-_, _≤_}
-use borrow.Author.Tests.{not-false, not-true}
 use lib.ListN.{length}
-use mathlib.Core.Path.{_∙_, sym}
 use native.Mathlib.Omega.{arith}
+use Rattle.messages.proofs.Chain.{failed, held}
 use Rattle.steptext.proofs.Sums.{Reading, begin, bounded, turn}
 use Rattle.steptext.proofs.Values.{above, below, inside, is-number, no-digit, too-much, unreadable}
 use Rattle.steptext.specs.Text.{digit0, mostDigits}
@@ -29,7 +28,7 @@ returns-2 c =
 returns-3 : tie.Need-returns-3 Inv-loop μ-loop
 returns-3 c =
     let the-args = c .before .before .before .before .before .args in
-    unreadable (the-args .xs .now) 1 (sym (c .before .no-needless-0 .ensures) ∙ not-true _ (c .if3 .taken))
+    unreadable (the-args .xs .now) 1 (failed (c .before .no-needless-0 .ensures) (c .if3 .taken))
 
 loop-holds : tie.Need-loop-holds Inv-loop μ-loop
 loop-holds c =
@@ -83,7 +82,7 @@ returns-7 c =
     let the-no-needless-0 = c .before .before .before .before .no-needless-0 in
     let the-if2 = c .before .before .before .before .before .if2 in
     let the-args = c .before .before .before .before .before .before .before .before .args in
-    is-number (the-args .xs .now) (the-loop .sum) (the-loop .i) (the-loop .inv .1) (c .before .loop-test .left) (inside 1 _ mostDigits (omega arith) (the-if2 .left)) (sym (the-no-needless-0 .ensures) ∙ not-false _ (the-if3 .left)) (c .if6 .left)
+    is-number (the-args .xs .now) (the-loop .sum) (the-loop .i) (the-loop .inv .1) (c .before .loop-test .left) (inside 1 _ mostDigits (omega arith) (the-if2 .left)) (held (the-no-needless-0 .ensures) (the-if3 .left)) (c .if6 .left)
 
 pub read-number-spec : {M : Type 1} → statement M
 read-number-spec =

@@ -1,10 +1,11 @@
 -- `steptext::read::gather` meets its promise.
 use Prim.Native.Nat.{_*_, _+_, _-_, _≤_}
 use borrow.Author.Needs.{needs}
-use borrow.Author.Tests.{not-false, not-true}
+use borrow.Author.Tests.{not-false}
 use lib.ListN.{length}
-use mathlib.Core.Path.{_∙_, _≡_, ap, sym}
+use mathlib.Core.Path.{_∙_, _≡_, ap}
 use native.Mathlib.Omega.{arith}
+use Rattle.messages.proofs.Chain.{failed, held}
 use Rattle.record.specs.Table.{withNumbers}
 use Rattle.rules.specs.Run.{stepWidth}
 use Rattle.steptext.proofs.Gathered.{Going, begin, numbers-are, over-and-done, readable-is, refused-line, refused-text, seven, turn}
@@ -41,7 +42,7 @@ returns c =
     let the-loop-test = c .before .before .before .before .loop-test in
     let the-loop = c .before .before .before .before .before .loop in
     let the-args = c .before .before .before .before .before .before .before .before .args in
-    refused-line (the-args .text .now) (the-args .from) (the-args .answers) (the-args .t .now) (the-loop .t) (the-loop .at) (the-loop .count) (the-loop .inv) (the-loop-test .taken) _ (the-next-line .ensures) (sym (readable-is _ _ (the-step-said .ensures)) ∙ not-true _ (c .if1 .taken))
+    refused-line (the-args .text .now) (the-args .from) (the-args .answers) (the-args .t .now) (the-loop .t) (the-loop .at) (the-loop .count) (the-loop .inv) (the-loop-test .taken) _ (the-next-line .ensures) (failed (readable-is _ _ (the-step-said .ensures)) (c .if1 .taken))
 
 same-length-2 : tie.Need-same-length-2 Inv-loop μ-loop
 same-length-2 c =
@@ -55,7 +56,7 @@ returns-2 c =
     let the-loop-test = c .before .before .before .before .before .loop-test in
     let the-loop = c .before .before .before .before .before .before .loop in
     let the-args = c .before .before .before .before .before .before .before .before .before .args in
-    refused-text (the-args .text .now) (the-args .from) (the-args .answers) (the-args .t .now) (the-loop .t) (the-loop .at) (the-loop .count) (the-loop .inv) (the-loop-test .taken) _ (the-next-line .ensures) (sym (readable-is _ _ (the-step-said .ensures)) ∙ not-false _ (c .before .if1 .left)) (c .if2 .taken)
+    refused-text (the-args .text .now) (the-args .from) (the-args .answers) (the-args .t .now) (the-loop .t) (the-loop .at) (the-loop .count) (the-loop .inv) (the-loop-test .taken) _ (the-next-line .ensures) (held (readable-is _ _ (the-step-said .ensures)) (c .before .if1 .left)) (c .if2 .taken)
 
 mul-copy-into : tie.Need-mul-copy-into Inv-loop μ-loop
 mul-copy-into c =
@@ -69,7 +70,7 @@ copy-into-requires c κs =
     let the-step-said = c .before .before .before .before .before .before .step-said in
     let the-loop = c .before .before .before .before .before .before .before .before .before .loop in
     let the-pre = c .before .before .before .before .before .before .before .before .before .before .before .before .pre in
-    let is-step = sym (readable-is _ _ (the-step-said .ensures)) ∙ not-false _ (the-if1 .left) in
+    let is-step = held (readable-is _ _ (the-step-said .ensures)) (the-if1 .left) in
     let w : length (the-step-said .result .numbers) ≡ stepWidth = ap length (numbers-are _ _ (the-step-said .ensures) (not-false _ (the-if1 .left))) ∙ seven _ is-step in
     let h : the-loop .count * stepWidth + length (the-step-said .result .numbers) ≤ length (the-loop .t) = omega (arith, the-loop .inv .few, the-loop .inv .long, the-pre .1, the-if2 .left) in
     h
@@ -111,7 +112,7 @@ loop-again c =
     let the-args = c .before .before .before .before .before .before .before .before .before .before .before .before .before .before .before .args in
     let the-pre = c .before .before .before .before .before .before .before .before .before .before .before .before .before .before .before .pre in
     let numbered = numbers-are _ _ (the-step-said .ensures) (not-false _ (the-if1 .left)) in
-    turn (the-args .text .now) (the-args .from) (the-args .answers) (the-args .t .now) (the-loop .t) (the-loop .at) (the-loop .count) (the-loop .inv) (the-loop-test .taken) (the-next-line .result .now) (the-next-line .ensures) (sym (readable-is _ _ (the-step-said .ensures)) ∙ not-false _ (the-if1 .left)) (the-if2 .left) (the-pre .1) (the-copy-into .last .0) (the-copy-into .ensures ∙ ap (withNumbers (the-loop .count * stepWidth) (the-loop .t)) numbered) (the-copy-into .kept .0)
+    turn (the-args .text .now) (the-args .from) (the-args .answers) (the-args .t .now) (the-loop .t) (the-loop .at) (the-loop .count) (the-loop .inv) (the-loop-test .taken) (the-next-line .result .now) (the-next-line .ensures) (held (readable-is _ _ (the-step-said .ensures)) (the-if1 .left)) (the-if2 .left) (the-pre .1) (the-copy-into .last .0) (the-copy-into .ensures ∙ ap (withNumbers (the-loop .count * stepWidth) (the-loop .t)) numbered) (the-copy-into .kept .0)
 
 same-length-3 : tie.Need-same-length-3 Inv-loop μ-loop
 same-length-3 c = c .before .loop .inv .long

@@ -1,8 +1,9 @@
 -- `steptext::says::answers_said` meets its promise.
 use borrow.Author.Needs.{needs}
-use borrow.Author.Tests.{ne-eqb, not-false, not-true}
-use mathlib.Core.Path.{_∙_, sym}
+use borrow.Author.Tests.{ne-eqb}
+use mathlib.Core.Path.{_∙_}
 use native.Mathlib.Omega.{arith}
+use Rattle.messages.proofs.Chain.{failed, held}
 use Rattle.steptext.proofs.Said.{answers-read, no-answers, other-start, some-byte, too-short}
 use Rattle.steptext.proofs.says.answers_said.Statement.{statement}
 use Rattle.steptext.proofs.says.answers_said.Tie as tie
@@ -10,12 +11,12 @@ use Rattle.steptext.proofs.says.answers_said.Tie as tie
 returns : tie.Need-returns
 returns c =
     let the-args = c .before .before .before .args in
-    no-answers (the-args .line .now) 0 (sym (c .before .is-ended .ensures) ∙ not-true _ (c .if1 .taken))
+    no-answers (the-args .line .now) 0 (failed (c .before .is-ended .ensures) (c .if1 .taken))
 
 sub-end : tie.Need-sub-end
 sub-end c =
     let the-args = c .before .before .before .args in
-    some-byte (the-args .line .now) (sym (c .before .is-ended .ensures) ∙ not-false _ (c .if1 .left))
+    some-byte (the-args .line .now) (held (c .before .is-ended .ensures) (c .if1 .left))
 
 returns-2 : tie.Need-returns-2
 returns-2 c =
@@ -40,7 +41,7 @@ returns-5 c =
     let the-if1 = c .before .before .before .before .before .before .before .if1 in
     let the-is-ended = c .before .before .before .before .before .before .before .before .is-ended in
     let the-args = c .before .before .before .before .before .before .before .before .before .before .args in
-    c .read-number .ensures ∙ answers-read (the-args .line .now) (sym (the-is-ended .ensures) ∙ not-false _ (the-if1 .left)) (the-if2 .left) (the-if3 .left) (the-if4 .left)
+    c .read-number .ensures ∙ answers-read (the-args .line .now) (held (the-is-ended .ensures) (the-if1 .left)) (the-if2 .left) (the-if3 .left) (the-if4 .left)
 
 pub answers-said-spec : {M : Type 1} → statement M
 answers-said-spec =

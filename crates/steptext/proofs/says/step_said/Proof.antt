@@ -1,7 +1,7 @@
 -- `steptext::says::step_said` meets its promise.
 use borrow.Author.Needs.{needs}
-use borrow.Author.Tests.{not-false, not-true}
-use mathlib.Core.Path.{_∙_, sym}
+use mathlib.Core.Path.{_∙_}
+use Rattle.messages.proofs.Chain.{failed, held}
 use Rattle.steptext.proofs.Said.{said-ended, said-unended, some-byte}
 use Rattle.steptext.proofs.says.step_said.Statement.{statement}
 use Rattle.steptext.proofs.says.step_said.Tie as tie
@@ -10,19 +10,19 @@ returns : tie.Need-returns
 returns c =
     let the-is-ended = c .before .before .is-ended in
     let the-args = c .before .before .before .before .args in
-    c .unreadable .ensures ∙ said-unended (the-args .line .now) (sym (the-is-ended .ensures) ∙ not-true _ (c .before .if1 .taken))
+    c .unreadable .ensures ∙ said-unended (the-args .line .now) (failed (the-is-ended .ensures) (c .before .if1 .taken))
 
 sub-end : tie.Need-sub-end
 sub-end c =
     let the-args = c .before .before .before .args in
-    some-byte (the-args .line .now) (sym (c .before .is-ended .ensures) ∙ not-false _ (c .if1 .left))
+    some-byte (the-args .line .now) (held (c .before .is-ended .ensures) (c .if1 .left))
 
 returns-2 : tie.Need-returns-2
 returns-2 c =
     let the-if1 = c .before .before .if1 in
     let the-is-ended = c .before .before .before .is-ended in
     let the-args = c .before .before .before .before .before .args in
-    c .numbers-said .ensures ∙ said-ended (the-args .line .now) (sym (the-is-ended .ensures) ∙ not-false _ (the-if1 .left))
+    c .numbers-said .ensures ∙ said-ended (the-args .line .now) (held (the-is-ended .ensures) (the-if1 .left))
 
 pub step-said-spec : {M : Type 1} → statement M
 step-said-spec =
