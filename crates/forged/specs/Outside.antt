@@ -11,8 +11,10 @@ use Rattle.record.specs.Table.{Record}
 use Rattle.messages.specs.declared.parts.Account.{Account}
 use Rattle.messages.specs.declared.parts.Buyer.{Buyer}
 use Rattle.messages.specs.declared.parts.Drawn.{Drawn}
+use Rattle.messages.specs.declared.parts.Slip.{Slip}
+use Rattle.messages.specs.declared.signed.BuyerSigned.{BuyerSigned}
 use Rattle.rules.specs.Codes.{Argument, Item, itemLetter, rowOf}
-use Rattle.rules.specs.Forged.{account, buyer, drawn, forged, given, gives, hashed, itemOr, mark, seller}
+use Rattle.rules.specs.Forged.{account, buyer, buyerSignature, drawn, forged, given, gives, hashed, itemOr, mark, seller, slip}
 use Rattle.rules.specs.Step.{argumentsOf, codeOf}
 use Rattle.forged.specs.declared.added.Gathered.{Gathered}
 
@@ -54,6 +56,12 @@ gatheredIn R s =
       hashed = hashed R (takenBy s) (argumentsOf s);
       mark = mark R (takenBy s) (argumentsOf s);
     }
+
+unfoldable pub slipGiven : Record → List ℕ → Slip
+slipGiven R s = slip R (takenBy s) (argumentsOf s)
+
+unfoldable pub buyerSignatureIn : Record → List ℕ → BuyerSigned
+buyerSignatureIn R s = buyerSignature R (takenBy s) (argumentsOf s)
 
 unfoldable pub forgedIn : Kind → Record → List ℕ → Message
 forgedIn k R s = forged R (takenBy s) (argumentsOf s) k

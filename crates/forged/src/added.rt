@@ -32,12 +32,9 @@ use messages::signed::RequestSigned;
 ghost use mathlib.Core.Path.{_≡_};
 ghost use Prim.Native.Nat.{ℕ};
 ghost use Rattle.arguments.specs.Ready.{Ready};
-ghost use Rattle.forged.specs.Outside.{forgedIn, gatheredIn, itemIn};
+ghost use Rattle.forged.specs.Outside.{buyerSignatureIn, forgedIn, gatheredIn, slipGiven};
 ghost use Rattle.messages.specs.Layout.{AuthRequest, AuthResponse, Initiate, Invoice, Payment};
 ghost use Rattle.record.specs.Table.{messages, roomOf};
-ghost use Rattle.rules.specs.Codes.{Item};
-ghost use Rattle.rules.specs.Honest.{house, slipUnder};
-ghost use Rattle.rules.specs.Items.{slipIn};
 
 // What every kind is made from.
 pub struct Gathered {
@@ -101,7 +98,7 @@ pub fn forge_invoice(t: &[u16], row: &[u8], s: &[u16]) -> [u16; MESSAGE_WIDTH]
 // Without e, a slip is built under key 1.
 fn gathered_slip(t: &[u16], row: &[u8], s: &[u16], g: Gathered) -> Slip
     requires { ⌜ Ready (roomOf (now t)) (now t) (now row) (now s) ⌝ }
-    ensures { λ r. ⌜ ((n : ℕ) → Ready n (now (t .entry)) (now (row .entry)) (now (s .entry)) → r ≡ itemIn Item.e slipIn (slipUnder house (g .mark) (g .account) (g .drawn)) (messages n (now (t .entry))) (now (s .entry))) ⌝ }
+    ensures { λ r. ⌜ ((n : ℕ) → Ready n (now (t .entry)) (now (row .entry)) (now (s .entry)) → g ≡ gatheredIn (messages n (now (t .entry))) (now (s .entry)) → r ≡ slipGiven (messages n (now (t .entry))) (now (s .entry))) ⌝ }
 {
     let mark = g.mark;
     let account = g.account;
@@ -115,6 +112,19 @@ fn gathered_slip(t: &[u16], row: &[u8], s: &[u16], g: Gathered) -> Slip
     slip(t, row, s, built)
 }
 
+// The buyer's signature of a Payment and of an Auth-Request.
+fn signed_by_buyer(t: &[u16], row: &[u8], s: &[u16], mark: Mark, slip: Slip) -> BuyerSigned
+    requires { ⌜ Ready (roomOf (now t)) (now t) (now row) (now s) ⌝ }
+    ensures { λ r. ⌜ ((n : ℕ) → Ready n (now (t .entry)) (now (row .entry)) (now (s .entry)) → mark ≡ gatheredIn (messages n (now (t .entry))) (now (s .entry)) .mark → slip ≡ slipGiven (messages n (now (t .entry))) (now (s .entry)) → r ≡ buyerSignatureIn (messages n (now (t .entry))) (now (s .entry))) ⌝ }
+{
+    let built = BuyerSigned {
+        signer: Buyer(0),
+        slip,
+        mark,
+    };
+    buyer_signature(t, row, s, built)
+}
+
 pub fn forge_payment(t: &[u16], row: &[u8], s: &[u16]) -> [u16; MESSAGE_WIDTH]
     requires { ⌜ Ready (roomOf (now t)) (now t) (now row) (now s) ⌝ }
     ensures { λ r. ⌜ ((n : ℕ) → Ready n (now (t .entry)) (now (row .entry)) (now (s .entry)) → r ≡ forgedIn Payment (messages n (now (t .entry))) (now (s .entry))) ⌝ }
@@ -122,12 +132,7 @@ pub fn forge_payment(t: &[u16], row: &[u8], s: &[u16]) -> [u16; MESSAGE_WIDTH]
     let g = gather(t, row, s);
     let mark = g.mark;
     let slip = gathered_slip(t, row, s, g);
-    let built = BuyerSigned {
-        signer: Buyer(0),
-        slip,
-        mark,
-    };
-    let signed = buyer_signature(t, row, s, built);
+    let signed = signed_by_buyer(t, row, s, mark, slip);
     payment(Buyer(0), g.buyer, g.seller, slip, signed)
 }
 
@@ -144,12 +149,6 @@ pub fn forge_request(t: &[u16], row: &[u8], s: &[u16]) -> [u16; MESSAGE_WIDTH]
         slip,
     };
     let signed = request_signature(t, row, s, built);
-    let built_by_buyer = BuyerSigned {
-        signer: Buyer(0),
-        slip,
-        mark,
-    };
-    let signed_by_buyer = buyer_signature(t, row, s, built_by_buyer);
     auth_request(
         Seller(0),
         g.seller,
@@ -157,7 +156,7 @@ pub fn forge_request(t: &[u16], row: &[u8], s: &[u16]) -> [u16; MESSAGE_WIDTH]
         mark,
         slip,
         signed,
-        signed_by_buyer,
+        signed_by_buyer(t, row, s, mark, slip),
     )
 }
 

@@ -1,19 +1,18 @@
 -- `forged::added::forge_request` meets its promise.
 use borrow.Author.Needs.{needs}
-use mathlib.Core.Path.{_∙_, _≡_}
+use mathlib.Core.Path.{_∙_}
 use Rattle.messages.specs.Layout.{anAuthRequest}
 use Rattle.record.specs.Table.{messages}
 use Rattle.rules.specs.Codes.{Item}
-use Rattle.rules.specs.Forged.{noBuyer, noSeller, slip}
-use Rattle.rules.specs.Honest.{house, slipUnder}
-use Rattle.rules.specs.Items.{buyerSignedIn, requestSignedIn, slipIn}
-use Rattle.rules.specs.Step.{argumentsOf}
-use Rattle.forged.specs.Outside.{forgedIn, gatheredIn, itemIn, takenBy}
+use Rattle.rules.specs.Forged.{noSeller, slip}
+use Rattle.rules.specs.Honest.{house}
+use Rattle.rules.specs.Items.{requestSignedIn}
+use Rattle.forged.specs.Outside.{buyerSignatureIn, forgedIn, gatheredIn, itemIn, slipGiven}
 use Rattle.forged.proofs.added.forge_request.Statement.{statement}
 use Rattle.forged.proofs.added.forge_request.Tie as tie
 
 returns : tie.Need-returns
-unfolding forgedIn gatheredIn itemIn
+unfolding buyerSignatureIn forgedIn gatheredIn itemIn slipGiven
 returns c =
     let the-request-signature = c .before .before .request-signature in
     let the-gathered-slip = c .before .before .before .gathered-slip in
@@ -23,9 +22,9 @@ returns c =
     let R = messages n (the-args .t .now) in
     let s = the-args .s .now in
     let G = the-gather .ensures n ready in
-    let E : the-gathered-slip .result ≡ itemIn Item.e slipIn (slipUnder house (gatheredIn R s .mark) (gatheredIn R s .account) (gatheredIn R s .drawn)) R s = the-gathered-slip .ensures n ready ∙ (λ i. itemIn Item.e slipIn (slipUnder house (G i .mark) (G i .account) (G i .drawn)) R s) in
-    let P : c .before .buyer-signature .result ≡ itemIn Item.p buyerSignedIn (record { signer = noBuyer; slip = slip R (takenBy s) (argumentsOf s); mark = gatheredIn R s .mark }) R s = c .before .buyer-signature .ensures n ready ∙ (λ i. itemIn Item.p buyerSignedIn (record { signer = noBuyer; slip = E i; mark = G i .mark }) R s) in
-    let Q : the-request-signature .result ≡ itemIn Item.q requestSignedIn (record { signer = noSeller; mark = gatheredIn R s .mark; slip = slip R (takenBy s) (argumentsOf s) }) R s = the-request-signature .ensures n ready ∙ (λ i. itemIn Item.q requestSignedIn (record { signer = noSeller; mark = G i .mark; slip = E i }) R s) in
+    let E = the-gathered-slip .ensures n ready G in
+    let P = c .before .signed-by-buyer .ensures n ready (λ i. G i .mark) E in
+    let Q = the-request-signature .ensures n ready ∙ (λ i. itemIn Item.q requestSignedIn (record { signer = noSeller; mark = G i .mark; slip = E i }) R s) in
     c .auth-request .ensures ∙ (λ i. anAuthRequest noSeller (G i .seller) house (G i .mark) (E i) (Q i) (P i))
 
 pub forge-request-spec : {M : Type 1} → statement M
