@@ -19,7 +19,7 @@ use Rattle.rules.specs.Step.{Outcome, accepted, added, argumentsOf, claims, cod
 use Rattle.arguments.proofs.Lowest.{three}
 use Rattle.messages.proofs.Picks.{no, yes}
 use Rattle.step.specs.Answer.{Answered}
-use Rattle.step.specs.Coded.{addedIn, allowedIn}
+use Rattle.step.specs.Coded.{addedIn, allowedIn, decided}
 use Rattle.arguments.specs.Faults.{faults}
 use Rattle.arguments.specs.Ready.{Known, Ready}
 use Rattle.step.specs.declared.judge.Answer.the-variants.{Accepted, Refused}
@@ -60,27 +60,19 @@ module _ (answers n : ℕ) (t s : List ℕ) where
   held : Bool
   held = eachArgument (holding (messages n t)) (rowOf (codeOf s) .takes) (argumentsOf s)
 
-  claimed : Bool
-  claimed = all holds (claims (messages n t) (rowOf (codeOf s) .takes) (argumentsOf s) (rowOf (codeOf s) .deed))
-
-  message : Message
-  message = added (messages n t) (rowOf (codeOf s) .takes) (argumentsOf s) answers (rowOf (codeOf s) .deed)
-
-  -- gates 6 and 7
-  rest : Outcome
-  rest = cond claimed (cond (ltb n (roomOf t)) (accepted message) (refused 7)) (refused 6)
-
   outcome : Outcome
   outcome = judge answers (roomOf t) (messages n t) s
 
-  unfolded : outcome ≡ cond (known (codeOf s)) (cond ranged (cond (placedIn n) (cond held rest (refused 5)) (refused 4)) (refused 3)) (refused 2)
-  unfolding outcome judge judgeRow ranged placedIn held claimed message rest
+  unfolded : outcome ≡ cond (known (codeOf s)) (cond ranged (cond (placedIn n) (cond held (decided answers n t s) (refused 5)) (refused 4)) (refused 3)) (refused 2)
+  unfolding outcome judge judgeRow ranged placedIn held decided
   unfolded =
       ap
       (λ (k : ℕ). cond (known (codeOf s))
       (cond ranged
       (cond (placedIn k)
-      (cond held (cond claimed (cond (ltb k (roomOf t)) (accepted message) (refused 7)) (refused 6)) (refused 5))
+      (cond held
+      (cond (allowedIn n t s) (cond (ltb k (roomOf t)) (accepted (addedIn answers n t s)) (refused 7)) (refused 6))
+      (refused 5))
       (refused 4))
       (refused 3))
       (refused 2))
@@ -96,7 +88,7 @@ module _ (answers n : ℕ) (t s : List ℕ) where
     unfolding outcome ranged placedIn held three
     faulty f e h =
         unfolded ∙ sym (yes _ k refl)
-        ∙ shut ranged (placedIn n) held rest (λ (z : three ranged (placedIn n) held ≡ 9). h (e ∙ z))
+        ∙ shut ranged (placedIn n) held (decided answers n t s) (λ (z : three ranged (placedIn n) held ≡ 9). h (e ∙ z))
         ∙ ap refused (sym e)
 
     module _ (fine : 9 ≡ faults n (messages n t) (rowOf (codeOf s) .takes) (argumentsOf s)) where
@@ -108,23 +100,24 @@ module _ (answers n : ℕ) (t s : List ℕ) where
       unfolding placedIn
       ready w h = record { known = w; room = h; places = opened .1 }
 
-      past-arguments : judge answers (roomOf t) (messages n t) s ≡ rest
+      pub past-arguments : judge answers (roomOf t) (messages n t) s ≡ decided answers n t s
       unfolding outcome
       past-arguments =
           unfolded ∙ sym (yes _ k refl) ∙ sym (yes _ (opened .0) refl) ∙ sym (yes _ (opened .1) refl) ∙ sym (yes _ (opened .2) refl)
 
-      pub not-allowed : allowedIn n t s ≡ false → judge answers (roomOf t) (messages n t) s ≡ refused 6
-      unfolding rest claimed
-      not-allowed e = past-arguments ∙ sym (no _ e refl)
+  -- what is left when the arguments are good
+  pub not-allowed : allowedIn n t s ≡ false → decided answers n t s ≡ refused 6
+  unfolding decided
+  not-allowed e = sym (no _ e refl)
 
-      module _ (allowed : allowedIn n t s ≡ true) where
-        pub full : ltb n (roomOf t) ≡ false → judge answers (roomOf t) (messages n t) s ≡ refused 7
-        unfolding rest claimed
-        full h = past-arguments ∙ sym (yes _ allowed refl) ∙ sym (no _ h refl)
+  module _ (allowed : allowedIn n t s ≡ true) where
+    pub full : ltb n (roomOf t) ≡ false → decided answers n t s ≡ refused 7
+    unfolding decided
+    full h = sym (yes _ allowed refl) ∙ sym (no _ h refl)
 
-        pub taken : {m : Message} → ltb n (roomOf t) ≡ true → m ≡ addedIn answers n t s → judge answers (roomOf t) (messages n t) s ≡ accepted m
-        unfolding rest claimed message
-        taken h e = past-arguments ∙ sym (yes _ allowed refl) ∙ sym (yes _ h refl) ∙ ap accepted (sym e)
+    pub taken : {m : Message} → ltb n (roomOf t) ≡ true → m ≡ addedIn answers n t s → decided answers n t s ≡ accepted m
+    unfolding decided
+    taken h e = sym (yes _ allowed refl) ∙ sym (yes _ h refl) ∙ ap accepted (sym e)
 
 -- with refusal 1 in front
 pub unlawful : (answers n : ℕ) (t s : List ℕ) → lawfulRecord n t ≡ false → judgeTable answers n t s ≡ refused 1

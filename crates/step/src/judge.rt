@@ -15,14 +15,34 @@ ghost use mathlib.Core.Path.{_≡_};
 ghost use Prim.Native.Nat.{_≤_};
 ghost use lib.ListN.{length};
 ghost use Rattle.arguments.specs.Lent.{tableLetters};
+ghost use Rattle.arguments.specs.Ready.{Ready};
 ghost use Rattle.record.specs.Table.{messages, roomOf, whole};
 ghost use Rattle.rules.specs.Step.{judge as judgeOf, judgeTable};
 ghost use Rattle.step.specs.Answer.{Answered};
+ghost use Rattle.step.specs.Coded.{decided};
 
 // What a step answers: the place of the message that it added, or the number of the refusal.
 pub enum Answer {
     Accepted(Place),
     Refused(u8),
+}
+
+// A step whose arguments are good: its condition, the room, and then the message. Both tests are made before either is answered.
+fn decide(t: &mut [u16], n: usize, answers: u16, row: &[u8], s: &[u16]) -> Answer
+    requires { ⌜ (whole (now t) ≡ true) × Ready n (now t) (now row) (now s) ⌝ }
+    ensures { λ r. ⌜ Answered n (now (t .entry)) (decided answers n (now (t .entry)) (now (s .entry))) r (now (t .exit)) ⌝ }
+{
+    let barred = !is_allowed(t, s);
+    let full = room(t) <= n;
+    if barred {
+        return Answer::Refused(6);
+    }
+    if full {
+        return Answer::Refused(7);
+    }
+    let m = added(t, n, answers, row, s);
+    write(t, n, &m);
+    Answer::Accepted(Place(n + 1))
 }
 
 // A step of seven numbers against the first n messages of a table of whole messages, which are not looked through; the rows of all codes
@@ -40,17 +60,7 @@ pub fn judge_step(t: &mut [u16], n: usize, answers: u16, rows: &[u8], s: &[u16])
     if found != FINE {
         return Answer::Refused(found);
     }
-    let barred = !is_allowed(t, s);
-    let full = room(t) <= n;
-    if barred {
-        return Answer::Refused(6);
-    }
-    if full {
-        return Answer::Refused(7);
-    }
-    let m = added(t, n, answers, row, s);
-    write(t, n, &m);
-    Answer::Accepted(Place(n + 1))
+    decide(t, n, answers, row, s)
 }
 
 // A step against any table and count.
