@@ -15,10 +15,11 @@ use Rattle.messages.specs.Tests.{all}
 use Rattle.rules.specs.Run.{mostSteps, stepWidth}
 use Rattle.rules.specs.Step.{Step}
 use Rattle.lines.proofs.Parted.{line-within, lines-from}
+use Rattle.numbers.specs.Digits.{isNumber, valueOf}
 use Rattle.steptext.specs.Read.{Reading, readSteps, says, tooLong, unreadable}
 use Rattle.steptext.specs.Says.{readAs, stepSaid, unread}
 use Rattle.lines.specs.Lines.{Text, lineAt, lines}
-use Rattle.steptext.specs.Text.{body, isEnded, isNumber, isStepLine, parts, stepIn, valueOf}
+use Rattle.steptext.specs.Text.{body, isEnded, isStepLine, parts, stepIn}
 use Rattle.steptext.specs.Told.{Gathers}
 use Rattle.steptext.specs.declared.read.TextRead.the-variants.{Says, TooLong, Unreadable}
 use Rattle.steptext.specs.declared.says.StepSaid.{StepSaid}
