@@ -108,10 +108,10 @@ module _ (t : Text) (steps : List ℕ) where
           table = refl;
         })
 
-    pub all-gathered : (answers : ℕ) → Is answers ≡ answersSaid (lineAt t 0) → (read : TextRead) (zeros gathered left : List ℕ)
-        → Gathers (readSteps answers [] (lines (drop (length (lineAt t 0)) t))) zeros read gathered
+    pub all-gathered : (answers : ℕ) → Is answers ≡ answersSaid (lineAt t 0) → (read : TextRead) (gathered left : List ℕ)
+        → Gathers (readSteps answers [] (lines (drop (length (lineAt t 0)) t))) read gathered
         → left ≡ withNumbers 0 steps (take (textCount read * stepWidth - 0) gathered) → Leaves (readText (length steps) t) steps read left
-    all-gathered answers e read zeros gathered left g w =
+    all-gathered answers e read gathered left g w =
         let o = readSteps answers [] (lines (drop (length (lineAt t 0)) t)) in
         let many : textCount read * stepWidth - 0 ≡ countOf o * stepWidth = omega (arith, g .tells .count) in
         subst (λ (x : Reading). Leaves x steps read left) (read-lines t answers e ∙ by-lines)

@@ -1,12 +1,12 @@
 -- `steptext::read::read_text` meets its promise.
 use Prim.Native.Nat.{_*_, _-_, ℕ}
 use borrow.Author.Needs.{needs}
-use lib.ListN.{drop, length, replicate, take}
+use lib.ListN.{drop, length, take}
 use mathlib.Core.List.{List, []}
 use mathlib.Core.Path.{_∙_, ap, subst, sym}
 use native.Mathlib.Omega.{arith}
 use Rattle.record.specs.Table.{withNumbers}
-use Rattle.rules.specs.Run.{mostSteps, stepWidth}
+use Rattle.rules.specs.Run.{stepWidth}
 use Rattle.steptext.proofs.Whole.{all-gathered, first-within, too-many-bytes, too-short, unread-first}
 use Rattle.steptext.specs.Read.{readSteps}
 use Rattle.steptext.specs.Says.{answersSaid}
@@ -51,7 +51,7 @@ returns-4 c =
     let the-if2 = c .before .before .before .before .before .before .before .before .before .before .before .before .before .before .before .if2 in
     let the-if1 = c .before .before .before .before .before .before .before .before .before .before .before .before .before .before .before .before .if1 in
     let the-args = c .before .before .before .before .before .before .before .before .before .before .before .before .before .before .before .before .before .before .before .args in
-    all-gathered (the-args .text .now) (the-args .steps .now) (the-if1 .left) (the-if2 .left) (the-said .given .0 .0) (sym (the-said .given .1) ∙ the-answers-said .ensures ∙ ap answersSaid (the-next-line .ensures)) (the-gather .result) (replicate (mostSteps * stepWidth) 0) (the-gather .last .1 .1 .1 .0) _ (subst (λ (z : List ℕ). Gathers (readSteps (the-said .given .0 .0) [] (lines (drop (length z) (the-args .text .now)))) (replicate (mostSteps * stepWidth) 0) (the-gather .result) (the-gather .last .1 .1 .1 .0)) (the-next-line .ensures) (the-gather .ensures)) (the-copy-into .ensures ∙ ap (λ (k : ℕ). withNumbers 0 (the-args .steps .now) (take (k * stepWidth - 0) (the-gather .last .1 .1 .1 .0))) (the-count .ensures))
+    all-gathered (the-args .text .now) (the-args .steps .now) (the-if1 .left) (the-if2 .left) (the-said .given .0 .0) (sym (the-said .given .1) ∙ the-answers-said .ensures ∙ ap answersSaid (the-next-line .ensures)) (the-gather .result) (the-gather .last .1 .1 .1 .0) _ (subst (λ (z : List ℕ). Gathers (readSteps (the-said .given .0 .0) [] (lines (drop (length z) (the-args .text .now)))) (the-gather .result) (the-gather .last .1 .1 .1 .0)) (the-next-line .ensures) (the-gather .ensures)) (the-copy-into .ensures ∙ ap (λ (k : ℕ). withNumbers 0 (the-args .steps .now) (take (k * stepWidth - 0) (the-gather .last .1 .1 .1 .0))) (the-count .ensures))
 
 pub read-text-spec : {M : Type 1} → statement M
 read-text-spec =
