@@ -8,7 +8,7 @@ use native.Mathlib.Omega.{arith}
 use lib.ListN.{drop, length, length-append, length-set, set, take, take-append-drop}
 use lib.Seq.{drop-at, drop-drop, length-take-le, set-split, take-at}
 use Rattle.lines.specs.Lines.{Text}
-use Rattle.steptext.specs.Text.{digit0, mostDigits, mostNumber}
+use Rattle.numbers.specs.Digits.{digit0, mostDigits, mostNumber}
 use Rattle.printing.proofs.Digits.{decimal-longer, decimal-more, decimal-one, short}
 use Rattle.printing.specs.Decimal.{decimal}
 use Rattle.printing.specs.Put.{Put}

@@ -5,7 +5,7 @@ use mathlib.Core.List.{[], _∷_, _++_}
 use mathlib.Core.Path.{_≡_}
 use lib.Dec.{ltb}
 use Rattle.lines.specs.Lines.{Text}
-use Rattle.steptext.specs.Text.{digit0, isNumber, mostDigits, mostNumber, valueOf}
+use Rattle.numbers.specs.Digits.{digit0, isNumber, mostDigits, mostNumber, valueOf}
 
 -- a number's digits: those of a tenth of it, if it is 10 or more, then its last; `most` is how many there may be
 unfoldable pub digits : ℕ → ℕ → Text

@@ -1,8 +1,6 @@
--- The most bytes of what is printed, where a number has 5 digits.
+-- The most bytes of each line that is printed, where a number has 5 digits.
 use Prim.Native.Nat.{ℕ, _*_, _+_}
-use Rattle.record.specs.Table.{mostRoom}
-use Rattle.rules.specs.Run.{mostSteps}
-use Rattle.steptext.specs.Text.{mostDigits}
+use Rattle.numbers.specs.Digits.{mostDigits}
 
 -- a number with its tab
 abbrev pub cellWidest : ℕ
@@ -19,6 +17,3 @@ replyWidest = 4 * cellWidest + 2
 -- a letter, two numbers and a line feed
 abbrev pub refusedWidest : ℕ
 refusedWidest = 2 * cellWidest + 2
-
-abbrev pub mostPrinted : ℕ
-mostPrinted = mostSteps * stepWidest + mostRoom * replyWidest

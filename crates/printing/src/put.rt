@@ -1,6 +1,6 @@
 // Bytes and numbers put into a lent table. Each function writes at a place and returns the next.
 use lines::bytes::TAB;
-use steptext::numbers::MOST_DIGITS;
+use numbers::MOST_DIGITS;
 ghost use mathlib.Core.List.{[], _∷_};
 ghost use Prim.Native.Nat.{_+_, _≤_};
 ghost use lib.ListN.{length};
@@ -8,7 +8,7 @@ ghost use Rattle.printing.specs.Decimal.{decimal};
 ghost use Rattle.printing.specs.Put.{Put};
 ghost use Rattle.printing.specs.Widths.{cellWidest};
 ghost use Rattle.lines.specs.Lines.{tab};
-ghost use Rattle.steptext.specs.Text.{mostDigits};
+ghost use Rattle.numbers.specs.Digits.{mostDigits};
 
 // The most bytes of a number with its tab: it has at most 5 digits.
 pub const CELL_WIDEST: usize = 1 + MOST_DIGITS;

@@ -16,9 +16,8 @@ ghost use mathlib.Core.Path.{_≡_};
 ghost use Prim.Native.Nat.{_≤_};
 ghost use lib.ListN.{length};
 ghost use Rattle.record.specs.Table.{flat, roomOf, whole};
-ghost use Rattle.results.specs.Output.{results};
+ghost use Rattle.results.specs.Output.{mostPrinted, results};
 ghost use Rattle.printing.specs.Put.{Put};
-ghost use Rattle.printing.specs.Widths.{mostPrinted};
 ghost use Rattle.results.specs.Shown.{Shows};
 ghost use Rattle.rules.specs.Run.{mostSteps, over, played, stepCount, stepsOf};
 

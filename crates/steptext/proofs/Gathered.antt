@@ -15,10 +15,11 @@ use Rattle.messages.specs.Tests.{all}
 use Rattle.rules.specs.Run.{mostSteps, stepWidth}
 use Rattle.rules.specs.Step.{Step}
 use Rattle.lines.proofs.Parted.{line-within, lines-from}
+use Rattle.numbers.specs.Digits.{isNumber, valueOf}
 use Rattle.steptext.specs.Read.{Reading, readSteps, says, tooLong, unreadable}
 use Rattle.steptext.specs.Says.{readAs, stepSaid, unread}
 use Rattle.lines.specs.Lines.{Text, lineAt, lines}
-use Rattle.steptext.specs.Text.{body, isEnded, isNumber, isStepLine, parts, stepIn, valueOf}
+use Rattle.steptext.specs.Text.{body, isEnded, isStepLine, parts, stepIn}
 use Rattle.steptext.specs.Told.{Gathers}
 use Rattle.steptext.specs.declared.read.TextRead.the-variants.{Says, TooLong, Unreadable}
 use Rattle.steptext.specs.declared.says.StepSaid.{StepSaid}
@@ -67,23 +68,23 @@ begin text from answers t h =
 
 -- the three answers
 
-told-unreadable : (o : Reading) (t₀ t : List ℕ) (k : ℕ) → unreadable k ≡ o → k ≤ mostSteps + 2 → Gathers o t₀ (Unreadable k) t
-told-unreadable o t₀ t k e h =
-    subst (λ (x : Reading). Gathers x t₀ (Unreadable k) t) e
+told-unreadable : (o : Reading) (t : List ℕ) (k : ℕ) → unreadable k ≡ o → k ≤ mostSteps + 2 → Gathers o (Unreadable k) t
+told-unreadable o t k e h =
+    subst (λ (x : Reading). Gathers x (Unreadable k) t) e
     (record { tells = record { number = refl; answers = refl; count = refl; line = refl; few = omega arith; near = h }; gathered = refl })
 
-told-too-long : (o : Reading) (t₀ t : List ℕ) → tooLong ≡ o → Gathers o t₀ TooLong t
-told-too-long o t₀ t e =
-    subst (λ (x : Reading). Gathers x t₀ TooLong t) e
+told-too-long : (o : Reading) (t : List ℕ) → tooLong ≡ o → Gathers o TooLong t
+told-too-long o t e =
+    subst (λ (x : Reading). Gathers x TooLong t) e
     (record {
       tells = record { number = refl; answers = refl; count = refl; line = refl; few = omega arith; near = omega arith };
       gathered = refl;
     })
 
-told-says : (o : Reading) (t₀ t : List ℕ) (answers count : ℕ) (ss : List Step) → says answers ss ≡ o → length ss ≡ count → count ≤ mostSteps
-    → take (count * stepWidth) t ≡ flat ss → Gathers o t₀ (Says answers count) t
-told-says o t₀ t answers count ss e n h g =
-    subst (λ (x : Reading). Gathers x t₀ (Says answers count) t) e
+told-says : (o : Reading) (t : List ℕ) (answers count : ℕ) (ss : List Step) → says answers ss ≡ o → length ss ≡ count → count ≤ mostSteps
+    → take (count * stepWidth) t ≡ flat ss → Gathers o (Says answers count) t
+told-says o t answers count ss e n h g =
+    subst (λ (x : Reading). Gathers x (Says answers count) t) e
     (record {
       tells = record { number = refl; answers = refl; count = sym n; line = refl; few = h; near = omega arith };
       gathered = ap (λ (k : ℕ). take (k * stepWidth) t) n ∙ g;
@@ -116,15 +117,15 @@ module _ (text : Text) (from answers : ℕ) (t₀ t : List ℕ) (at count : ℕ)
         (sym (lines-from text at more ∙ ap (λ (z : Text). z ∷ lines (drop (at + length z) text)) (sym named)))
         ∙ going .finish
 
-    pub refused-line : isStepLine l ≡ false → Gathers (readSteps answers [] (lines (drop from text))) t₀ (Unreadable (count + 2)) t
+    pub refused-line : isStepLine l ≡ false → Gathers (readSteps answers [] (lines (drop from text))) (Unreadable (count + 2)) t
     refused-line h =
-        told-unreadable _ t₀ t (count + 2)
+        told-unreadable _ t (count + 2)
         (ap (λ (k : ℕ). unreadable (k + 2)) (sym (going .as-many)) ∙ next-unreadable answers (going .done) l rest h ∙ from-here)
         (omega (arith, going .few))
 
-    pub refused-text : isStepLine l ≡ true → count ≡ mostSteps → Gathers (readSteps answers [] (lines (drop from text))) t₀ TooLong t
+    pub refused-text : isStepLine l ≡ true → count ≡ mostSteps → Gathers (readSteps answers [] (lines (drop from text))) TooLong t
     refused-text h k =
-        told-too-long _ t₀ t
+        told-too-long _ t
         (next-too-many answers (going .done) l rest h (omega (arith, going .as-many)) ∙ from-here)
 
     pub turn : isStepLine l ≡ true → (count ≡ mostSteps → ⊥) → mostSteps * stepWidth ≤ length t₀ → (left : List ℕ)
@@ -152,9 +153,9 @@ module _ (text : Text) (from answers : ℕ) (t₀ t : List ℕ) (at count : ℕ)
               ∙ sym (flat-more (going .done) s);
         }
 
-  pub over-and-done : length text ≤ at → Gathers (readSteps answers [] (lines (drop from text))) t₀ (Says answers count) t
+  pub over-and-done : length text ≤ at → Gathers (readSteps answers [] (lines (drop from text))) (Says answers count) t
   unfolding readSteps
   over-and-done h =
-      told-says _ t₀ t answers count (going .done)
+      told-says _ t answers count (going .done)
       (sym (ap (λ (z : Text). readSteps answers (going .done) (lines z)) (drop-of-length-le text {i = at} h)) ∙ going .finish)
       (going .as-many) (going .few) (going .gathered)

@@ -14,13 +14,14 @@ use Rattle.messages.specs.Tests.{all, every, same}
 use Rattle.rules.specs.Run.{stepWidth}
 use Rattle.steptext.proofs.Parts.{first-part, only-part}
 use Rattle.lines.proofs.Parted.{before-within}
-use Rattle.steptext.proofs.Values.{fails}
-use Rattle.steptext.specs.Number.{numberIn}
+use Rattle.numbers.proofs.Values.{fails}
+use Rattle.numbers.specs.Digits.{isNumber, valueOf}
+use Rattle.numbers.specs.Number.{numberIn}
+use Rattle.numbers.specs.declared.Number.{Number}
+use Rattle.numbers.specs.declared.Number.the-variants.{Is, Unreadable}
 use Rattle.steptext.specs.Says.{answersSaid, numbersSaid, readAs, stepSaid, unread}
 use Rattle.lines.specs.Lines.{Text, before, onto, tab}
-use Rattle.steptext.specs.Text.{answersIn, answersStart, body, isAnswersLine, isEnded, isNumber, isStepLine, letterA, parts, stepIn, valueOf}
-use Rattle.steptext.specs.declared.numbers.Number.{Number}
-use Rattle.steptext.specs.declared.numbers.Number.the-variants.{Is, Unreadable}
+use Rattle.steptext.specs.Text.{answersIn, answersStart, body, isAnswersLine, isEnded, isStepLine, letterA, parts, stepIn}
 
 pub never-ended : (l : Text) → length l < 1 → false ≡ isEnded l
 never-ended [] h = refl

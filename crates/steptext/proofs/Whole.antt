@@ -1,5 +1,5 @@
 -- A text as a whole: its size, its first line, and the step table afterwards.
-use mathlib.Core.Bool.{Bool, true, false, _&&_, and-false, cond, false≢true}
+use mathlib.Core.Bool.{Bool, false, _&&_, and-false, cond, false≢true}
 use mathlib.Core.List.{List, [], _∷_, _++_}
 use mathlib.Core.Path.{_≡_, _∙_, refl, sym, ap, subst}
 use Prim.Native.Nat.{ℕ, _+_, _*_, _-_, _≤_, _<_}
@@ -11,6 +11,7 @@ use lib.ListN.{drop, length, take}
 use Rattle.record.specs.Table.{flat, withNumbers}
 use Rattle.rules.specs.Run.{mostSteps, over, stepWidth}
 use Rattle.lines.proofs.Parted.{line-within, lines-from}
+use Rattle.numbers.specs.declared.Number.the-variants.{Is, Unreadable}
 use Rattle.steptext.proofs.Said.{read-by, unread-by}
 use Rattle.steptext.specs.Read.{
   Reading,
@@ -27,7 +28,6 @@ use Rattle.steptext.specs.Says.{answersSaid}
 use Rattle.lines.specs.Lines.{Text, lineAt, lines}
 use Rattle.steptext.specs.Text.{answersIn, isAnswersLine}
 use Rattle.steptext.specs.Told.{Gathers, Leaves, textCount}
-use Rattle.steptext.specs.declared.numbers.Number.the-variants.{Is, Unreadable}
 use Rattle.steptext.specs.declared.read.TextRead.{TextRead}
 use Rattle.steptext.specs.declared.read.TextRead.the-variants.{TooLong, Unreadable as UnreadableAt}
 
@@ -108,10 +108,10 @@ module _ (t : Text) (steps : List ℕ) where
           table = refl;
         })
 
-    pub all-gathered : (answers : ℕ) → Is answers ≡ answersSaid (lineAt t 0) → (read : TextRead) (zeros gathered left : List ℕ)
-        → Gathers (readSteps answers [] (lines (drop (length (lineAt t 0)) t))) zeros read gathered
+    pub all-gathered : (answers : ℕ) → Is answers ≡ answersSaid (lineAt t 0) → (read : TextRead) (gathered left : List ℕ)
+        → Gathers (readSteps answers [] (lines (drop (length (lineAt t 0)) t))) read gathered
         → left ≡ withNumbers 0 steps (take (textCount read * stepWidth - 0) gathered) → Leaves (readText (length steps) t) steps read left
-    all-gathered answers e read zeros gathered left g w =
+    all-gathered answers e read gathered left g w =
         let o = readSteps answers [] (lines (drop (length (lineAt t 0)) t)) in
         let many : textCount read * stepWidth - 0 ≡ countOf o * stepWidth = omega (arith, g .tells .count) in
         subst (λ (x : Reading). Leaves x steps read left) (read-lines t answers e ∙ by-lines)

@@ -1,4 +1,3 @@
-pub mod Number
 pub mod Read
 pub mod Says
 pub mod Text

@@ -8,9 +8,10 @@ use Rattle.messages.specs.Layout.{filled}
 use Rattle.messages.specs.Tests.{all, every}
 use Rattle.rules.specs.Run.{stepWidth}
 use Rattle.lines.specs.Lines.{Text}
-use Rattle.steptext.specs.Text.{answersIn, isAnswersLine, isNumber, isStepLine, parts, stepIn, valueOf}
-use Rattle.steptext.specs.declared.numbers.Number.{Number}
-use Rattle.steptext.specs.declared.numbers.Number.the-variants.{Is, Unreadable}
+use Rattle.numbers.specs.Digits.{isNumber, valueOf}
+use Rattle.numbers.specs.declared.Number.{Number}
+use Rattle.numbers.specs.declared.Number.the-variants.{Is, Unreadable}
+use Rattle.steptext.specs.Text.{answersIn, isAnswersLine, isStepLine, parts, stepIn}
 use Rattle.steptext.specs.declared.says.StepSaid.{StepSaid}
 
 abbrev pub answersSaid : Text → Number

@@ -45,6 +45,6 @@ pub record Leaves (o : Reading) (t : List ℕ) (r : TextRead) (left : List ℕ) 
   pub table : left ≡ tableAfter t o
 
 -- while the steps are gathered, only they matter
-pub record Gathers (o : Reading) (t : List ℕ) (r : TextRead) (left : List ℕ) : Type 0 where
+pub record Gathers (o : Reading) (r : TextRead) (left : List ℕ) : Type 0 where
   pub tells : Tells o r
   pub gathered : take (countOf o * stepWidth) left ≡ flat (stepsIn o)

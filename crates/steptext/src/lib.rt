@@ -1,4 +1,3 @@
-// Step text: the numbers of a line, and the steps that the lines of a text say.
-pub mod numbers;
+// Step text: what a line says, and a text read into a table of steps.
 pub mod read;
 pub mod says;

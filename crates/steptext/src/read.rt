@@ -1,9 +1,9 @@
 // A text read into a step table. A refused text leaves the table as it was found: the steps are gathered beside it first.
-use crate::numbers::Number;
 use crate::says::STEP_WIDTH;
 use crate::says::answers_said;
 use crate::says::step_said;
 use lines::reader::next_line;
+use numbers::Number;
 use record::table::copy_into;
 ghost use mathlib.Core.List.{[]};
 ghost use mathlib.Core.Path.{_≡_};
@@ -28,7 +28,7 @@ pub enum TextRead {
 // The lines after line 1, their steps put into a table one after the other.
 fn gather(text: &[u8], from: usize, answers: u16, t: &mut [u16]) -> TextRead
     requires { ⌜ (from ≤ length (now text)) × (mostSteps * stepWidth ≤ length (now t)) ⌝ }
-    ensures { λ r. ⌜ Gathers (readSteps answers [] (lines (drop from (now (text .entry))))) (now (t .entry)) r (now (t .exit)) ⌝ }
+    ensures { λ r. ⌜ Gathers (readSteps answers [] (lines (drop from (now (text .entry))))) r (now (t .exit)) ⌝ }
 {
     let mut at = from;
     let mut count = 0;

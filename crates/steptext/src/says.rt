@@ -1,9 +1,9 @@
 // What a line says: the account answers, or a step.
-use crate::numbers::Number;
-use crate::numbers::read_number;
 use lines::bytes::LINE_FEED;
 use lines::bytes::TAB;
 use lines::bytes::next_at;
+use numbers::Number;
+use numbers::read_number;
 ghost use mathlib.Core.Path.{_≡_};
 ghost use Rattle.steptext.specs.Says.{answersSaid, numbersSaid, stepSaid, unread};
 ghost use Rattle.steptext.specs.Text.{isEnded};

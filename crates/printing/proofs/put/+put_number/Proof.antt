@@ -5,7 +5,7 @@ use borrow.Fn.PlainCycle.{Measures, and, falls, is}
 use native.Mathlib.Omega.{arith}
 use Rattle.printing.proofs.Digits.{decimal-longer, some}
 use Rattle.printing.proofs.Writing.{number-more, number-one}
-use Rattle.steptext.specs.Text.{mostDigits}
+use Rattle.numbers.specs.Digits.{mostDigits}
 use Rattle.printing.proofs.put.put_byte.Reads as put-byte-reads
 use Rattle.printing.proofs.put.put_number.Kinds as put-number-kinds
 use Rattle.printing.proofs.put.put_number.Reads as put-number

@@ -3,7 +3,7 @@ use borrow.Author.Needs.{needs}
 use native.Mathlib.Omega.{arith}
 use Rattle.printing.proofs.Digits.{short}
 use Rattle.printing.proofs.Writing.{then}
-use Rattle.steptext.specs.Text.{mostDigits}
+use Rattle.numbers.specs.Digits.{mostDigits}
 use Rattle.printing.proofs.put.put_cell.Statement.{statement}
 use Rattle.printing.proofs.put.put_cell.Tie as tie
 

@@ -2,7 +2,7 @@
 use borrow.Author.Needs.{needs}
 use native.Mathlib.Omega.{arith}
 use Rattle.printing.proofs.Writing.{bounded, then}
-use Rattle.printing.specs.Widths.{mostPrinted}
+use Rattle.results.specs.Output.{mostPrinted}
 use Rattle.results.proofs.rows.put_results.Statement.{statement}
 use Rattle.results.proofs.rows.put_results.Tie as tie
 

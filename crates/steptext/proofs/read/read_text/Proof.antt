@@ -51,7 +51,7 @@ returns-4 c =
     let the-if2 = c .before .before .before .before .before .before .before .before .before .before .before .before .before .before .before .if2 in
     let the-if1 = c .before .before .before .before .before .before .before .before .before .before .before .before .before .before .before .before .if1 in
     let the-args = c .before .before .before .before .before .before .before .before .before .before .before .before .before .before .before .before .before .before .before .args in
-    all-gathered (the-args .text .now) (the-args .steps .now) (the-if1 .left) (the-if2 .left) (the-said .given .0 .0) (sym (the-said .given .1) ∙ the-answers-said .ensures ∙ ap answersSaid (the-next-line .ensures)) (the-gather .result) _ (the-gather .last .1 .1 .1 .0) _ (subst (λ (z : List ℕ). Gathers (readSteps (the-said .given .0 .0) [] (lines (drop (length z) (the-args .text .now)))) _ (the-gather .result) (the-gather .last .1 .1 .1 .0)) (the-next-line .ensures) (the-gather .ensures)) (the-copy-into .ensures ∙ ap (λ (k : ℕ). withNumbers 0 (the-args .steps .now) (take (k * stepWidth - 0) (the-gather .last .1 .1 .1 .0))) (the-count .ensures))
+    all-gathered (the-args .text .now) (the-args .steps .now) (the-if1 .left) (the-if2 .left) (the-said .given .0 .0) (sym (the-said .given .1) ∙ the-answers-said .ensures ∙ ap answersSaid (the-next-line .ensures)) (the-gather .result) (the-gather .last .1 .1 .1 .0) _ (subst (λ (z : List ℕ). Gathers (readSteps (the-said .given .0 .0) [] (lines (drop (length z) (the-args .text .now)))) (the-gather .result) (the-gather .last .1 .1 .1 .0)) (the-next-line .ensures) (the-gather .ensures)) (the-copy-into .ensures ∙ ap (λ (k : ℕ). withNumbers 0 (the-args .steps .now) (take (k * stepWidth - 0) (the-gather .last .1 .1 .1 .0))) (the-count .ensures))
 
 pub read-text-spec : {M : Type 1} → statement M
 read-text-spec =

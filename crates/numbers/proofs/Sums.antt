@@ -11,7 +11,7 @@ use Rattle.messages.proofs.Chain.{right-of, skip}
 use Rattle.lines.proofs.Scans.{from}
 use Rattle.messages.specs.Tests.{all, between}
 use Rattle.lines.specs.Lines.{Text}
-use Rattle.steptext.specs.Text.{digit0, isDigit, valueFrom, valueOf}
+use Rattle.numbers.specs.Digits.{digit0, isDigit, valueFrom, valueOf}
 
 -- some digits are read, of which the sum has come
 pub record Reading (xs : Text) (sum i : ℕ) : Type 0 where

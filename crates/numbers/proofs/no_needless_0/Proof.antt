@@ -1,13 +1,13 @@
--- `steptext::numbers::no_needless_0` meets its promise.
+-- `numbers::no_needless_0` meets its promise.
 use borrow.Author.Needs.{needs}
 use borrow.Author.Tests.{eq-eqb, ne-eqb}
 use lib.Dec.{eqb}
 use lib.ListN.{getD}
 use mathlib.Core.Bool.{Bool, _||_, not}
 use mathlib.Core.Path.{ap, sym}
-use Rattle.steptext.specs.Text.{digit0}
-use Rattle.steptext.proofs.numbers.no_needless_0.Statement.{statement}
-use Rattle.steptext.proofs.numbers.no_needless_0.Tie as tie
+use Rattle.numbers.specs.Digits.{digit0}
+use Rattle.numbers.proofs.no_needless_0.Statement.{statement}
+use Rattle.numbers.proofs.no_needless_0.Tie as tie
 
 returns : tie.Need-returns
 returns c = ap (λ (b : Bool). b || not (eqb (getD (c .before .args .xs .now) 0 0) digit0)) (sym (eq-eqb _ _ (c .if1 .taken)))

@@ -8,28 +8,18 @@ use native.Mathlib.Omega.{arith}
 use lib.Dec.{leb}
 use lib.ListN.{drop, drop-of-length-le, getD, length}
 use Rattle.messages.proofs.Chain.{last, skip}
-use Rattle.messages.specs.Tests.{between}
-use Rattle.messages.specs.Tests.{all, every}
-use Rattle.steptext.proofs.Sums.{Reading, split-digits}
-use Rattle.steptext.specs.Number.{numberIn}
+use Rattle.messages.specs.Tests.{all, between, every}
+use Rattle.numbers.proofs.Sums.{Reading, split-digits}
+use Rattle.numbers.specs.Number.{numberIn}
 use Rattle.lines.specs.Lines.{Text}
-use Rattle.steptext.specs.Text.{isDigit, isNumber, mostDigits, mostNumber, noNeedless0, valueFrom, valueOf}
-use Rattle.steptext.specs.declared.numbers.Number.the-variants.{Is, Unreadable}
+use Rattle.numbers.specs.Digits.{isDigit, isNumber, mostDigits, mostNumber, noNeedless0, valueFrom, valueOf}
+use Rattle.numbers.specs.declared.Number.the-variants.{Is, Unreadable}
 
 -- one test that fails is enough
 pub fails : (bs : List Bool) (k : ℕ) → getD bs k true ≡ false → every bs ≡ false
 fails [] k e = absurd (true≢false e)
 fails (b ∷ bs) zero e = ap (λ (x : Bool). x && every bs) e
 fails (b ∷ bs) (suc k) e = ap (λ (x : Bool). b && x) (fails bs k e) ∙ and-false b
-
-pub below : (least x most : ℕ) → x < least → between least x most ≡ false
-below least x most h = ap (λ (b : Bool). b && leb x most) (lt-leb least x h)
-
-pub above : (least x most : ℕ) → most < x → between least x most ≡ false
-above least x most h = ap (λ (b : Bool). leb least x && b) (lt-leb x most h) ∙ and-false (leb least x)
-
-pub inside : (least x most : ℕ) → least ≤ x → x ≤ most → between least x most ≡ true
-inside least x most h k = ap (λ (b : Bool). b && leb x most) (le-leb least x h) ∙ le-leb x most k
 
 module _ (xs : Text) where
   abbrev tests : List Bool

@@ -2,8 +2,8 @@
 ghost use mathlib.Core.Path.{_≡_};
 ghost use Prim.Native.Nat.{_≤_};
 ghost use lib.ListN.{length};
-ghost use Rattle.steptext.specs.Number.{numberIn};
-ghost use Rattle.steptext.specs.Text.{noNeedless0};
+ghost use Rattle.numbers.specs.Number.{numberIn};
+ghost use Rattle.numbers.specs.Digits.{noNeedless0};
 
 pub enum Number {
     Is(u16),
