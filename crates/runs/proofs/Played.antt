@@ -13,10 +13,10 @@ use Rattle.messages.specs.Layout.{messageWidth}
 use Rattle.messages.specs.Parts.{Message}
 use lib.Dec.{eqb, leb}
 use Rattle.record.specs.Table.{Record, flat, messages, mostRoom, roomOf, whole, withMessage}
+use Rattle.rules.proofs.Accepted.{is-accepted}
 use Rattle.rules.specs.Run.{over, played, stepCount, stepWidth, stepsOf, verdicts}
 use Rattle.rules.specs.Step.{Outcome, Step, accepted, judge, numberOf, recordAfter, refused}
 use Rattle.runs.specs.Ran.{OnePlayed, Plays}
-use Rattle.step.proofs.Outcomes.{had-room}
 use Rattle.step.specs.Answer.{Answered}
 use Rattle.step.specs.declared.judge.Answer.the-variants.{Accepted, Refused}
 use Rattle.messages.specs.declared.parts.Place.{Place}
@@ -30,6 +30,11 @@ one-accepted n t (refused (suc k)) p left h w = let z = w .number in absurd (ome
 pub one-refused : (n : ℕ) (t : List ℕ) (o : Outcome) (k : ℕ) (left : List ℕ) → Answered n t o (Refused k) left → OnePlayed n t o k n left
 one-refused n t (accepted x) k left w = let z = w .place in absurd (omega arith)
 one-refused n t (refused j) k left w = record { judged = w .number; counted = refl; table = w .table }
+
+-- an accepted step had room
+had-room : (answers n : ℕ) (t s : List ℕ) (x : Message) → judge answers (roomOf t) (messages n t) s ≡ accepted x → n < roomOf t
+had-room answers n t s x e =
+    subst (λ (k : ℕ). k < roomOf t) (length-cut messageWidth n t) (is-accepted answers (roomOf t) (messages n t) s x e .passed .roomy)
 
 -- the record and the table after one step
 record Next (n : ℕ) (t : List ℕ) (o : Outcome) (count : ℕ) (left : List ℕ) : Type 0 where

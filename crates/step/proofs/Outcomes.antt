@@ -4,7 +4,6 @@ use mathlib.Core.List.{List}
 use mathlib.Core.Path.{_≡_, _∙_, refl, sym, ap, subst}
 use Prim.Native.Nat.{ℕ, _+_, _*_, _≤_, _<_, zero-le}
 use native.Mathlib.Omega.{arith}
-use borrow.Author.Tests.{ltb-true}
 use lib.Dec.{ltb}
 use lib.ListN.{length}
 use Rattle.record.proofs.Cut.{length-cut}
@@ -13,9 +12,8 @@ use Rattle.messages.specs.Parts.{Message}
 use Rattle.record.specs.Table.{lawfulRecord, messages, mostRoom, roomOf, withMessage}
 use Rattle.messages.specs.Tests.{all}
 use Rattle.rules.specs.Codes.{known, rowOf}
-use Rattle.rules.specs.Honest.{holds}
 use Rattle.rules.specs.Items.{eachArgument, holding, inRange, placed}
-use Rattle.rules.specs.Step.{Outcome, accepted, added, argumentsOf, claims, codeOf, judge, judgeRow, judgeTable, numberOf, placeOf, refused}
+use Rattle.rules.specs.Step.{Outcome, accepted, argumentsOf, codeOf, judge, judgeRow, judgeTable, refused}
 use Rattle.arguments.proofs.Lowest.{three}
 use Rattle.messages.proofs.Picks.{no, yes}
 use Rattle.step.specs.Answer.{Answered}
@@ -127,48 +125,3 @@ unlawful answers n t s e = sym (no _ e refl)
 pub lawful-judged : (answers n : ℕ) (t s : List ℕ) → lawfulRecord n t ≡ true → judge answers (roomOf t) (messages n t) s ≡ judgeTable answers n t s
 unfolding judgeTable
 lawful-judged answers n t s e = yes _ e refl
-
--- no step is refused with 0
-six-gates : (a b c d e f : Bool) (m : Message)
-    → cond a (cond b (cond c (cond d (cond e (cond f (accepted m) (refused 7)) (refused 6)) (refused 5)) (refused 4)) (refused 3)) (refused 2)
-    ≡ refused 0 → ⊥
-six-gates false b c d e f m w = let z : _≡_ {A = ℕ} 2 0 = ap numberOf w in omega arith
-six-gates true false c d e f m w = let z : _≡_ {A = ℕ} 3 0 = ap numberOf w in omega arith
-six-gates true true false d e f m w = let z : _≡_ {A = ℕ} 4 0 = ap numberOf w in omega arith
-six-gates true true true false e f m w = let z : _≡_ {A = ℕ} 5 0 = ap numberOf w in omega arith
-six-gates true true true true false f m w = let z : _≡_ {A = ℕ} 6 0 = ap numberOf w in omega arith
-six-gates true true true true true false m w = let z : _≡_ {A = ℕ} 7 0 = ap numberOf w in omega arith
-six-gates true true true true true true m w = let z : _≡_ {A = ℕ} 1 0 = ap (placeOf 0) w in omega arith
-
-pub never-zero : (answers n : ℕ) (t s : List ℕ) → judge answers (roomOf t) (messages n t) s ≡ refused 0 → ⊥
-unfolding judge judgeRow
-never-zero answers n t s e =
-    let R = messages n t in
-    let ks = rowOf (codeOf s) .takes in
-    let xs = argumentsOf s in
-    six-gates (known (codeOf s)) (eachArgument inRange ks xs) (eachArgument (placed (length R)) ks xs) (eachArgument (holding R) ks xs)
-    (all holds (claims R ks xs (rowOf (codeOf s) .deed))) (ltb (length R) (roomOf t)) (added R ks xs answers (rowOf (codeOf s) .deed)) e
-
--- an accepted step had room
-six-open : (a b c d e f : Bool) (m x : Message)
-    → cond a (cond b (cond c (cond d (cond e (cond f (accepted m) (refused 7)) (refused 6)) (refused 5)) (refused 4)) (refused 3)) (refused 2)
-    ≡ accepted x → f ≡ true
-six-open false b c d e f m x w = let z : _≡_ {A = ℕ} 0 1 = ap (placeOf 0) w in absurd (omega arith)
-six-open true false c d e f m x w = let z : _≡_ {A = ℕ} 0 1 = ap (placeOf 0) w in absurd (omega arith)
-six-open true true false d e f m x w = let z : _≡_ {A = ℕ} 0 1 = ap (placeOf 0) w in absurd (omega arith)
-six-open true true true false e f m x w = let z : _≡_ {A = ℕ} 0 1 = ap (placeOf 0) w in absurd (omega arith)
-six-open true true true true false f m x w = let z : _≡_ {A = ℕ} 0 1 = ap (placeOf 0) w in absurd (omega arith)
-six-open true true true true true false m x w = let z : _≡_ {A = ℕ} 0 1 = ap (placeOf 0) w in absurd (omega arith)
-six-open true true true true true true m x w = refl
-
-pub had-room : (answers n : ℕ) (t s : List ℕ) (x : Message) → judge answers (roomOf t) (messages n t) s ≡ accepted x → n < roomOf t
-unfolding judge judgeRow
-had-room answers n t s x e =
-    let R = messages n t in
-    let ks = rowOf (codeOf s) .takes in
-    let xs = argumentsOf s in
-    let h : length R < roomOf t =
-    ltb-true _ _
-    (six-open (known (codeOf s)) (eachArgument inRange ks xs) (eachArgument (placed (length R)) ks xs) (eachArgument (holding R) ks xs)
-    (all holds (claims R ks xs (rowOf (codeOf s) .deed))) (ltb (length R) (roomOf t)) (added R ks xs answers (rowOf (codeOf s) .deed)) x e) in
-    subst (λ (k : ℕ). k < roomOf t) (length-cut messageWidth n t) h

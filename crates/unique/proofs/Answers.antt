@@ -4,12 +4,13 @@ use mathlib.Core.Bool.{Bool, true, false, true≢false, false≢true}
 use mathlib.Core.List.{List}
 use mathlib.Core.Path.{_≡_, _∙_, refl, sym, ap, ap₂}
 use native.Mathlib.Omega.{arith}
-use Rattle.record.specs.Table.{lawfulRecord}
+use Rattle.record.specs.Table.{lawfulRecord, messages, roomOf}
 use Rattle.rules.specs.Step.{Outcome, accepted, judgeTable, numberOf, placeOf, refused}
 use Rattle.runs.specs.Ran.{isRefused, ranCount, ranNumber}
 use Rattle.runs.specs.declared.run.Ran.{Ran}
 use Rattle.runs.specs.declared.run.Ran.the-variants.{Messages, Refused as RunRefused}
-use Rattle.step.proofs.Outcomes.{lawful-judged, never-zero, unlawful}
+use Rattle.rules.proofs.Accepted.{never-zero}
+use Rattle.step.proofs.Outcomes.{lawful-judged, unlawful}
 use Rattle.step.specs.Answer.{answerNumber, answerPlace}
 use Rattle.step.specs.declared.judge.Answer.{Answer}
 use Rattle.step.specs.declared.judge.Answer.the-variants.{Accepted, Refused}
@@ -31,7 +32,7 @@ same-answer n o h (Refused k) (Accepted p) e f e′ f′ = absurd (not-both n o 
 same-answer n o h (Refused k) (Refused k′) e f e′ f′ = ap Refused (e ∙ sym e′)
 
 never-0 : (answers n : ℕ) (t s : List ℕ) (b : Bool) → lawfulRecord n t ≡ b → judgeTable answers n t s ≡ refused 0 → ⊥
-never-0 answers n t s true l e = never-zero answers n t s (lawful-judged answers n t s l ∙ e)
+never-0 answers n t s true l e = never-zero answers (roomOf t) (messages n t) s (lawful-judged answers n t s l ∙ e)
 never-0 answers n t s false l e =
     let z : _≡_ {A = ℕ} 1 0 = ap numberOf (sym (unlawful answers n t s l) ∙ e) in
     omega arith

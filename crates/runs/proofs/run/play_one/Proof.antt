@@ -4,7 +4,7 @@ use mathlib.Core.Path.{subst}
 use Rattle.record.specs.Table.{messages, roomOf}
 use Rattle.rules.specs.Step.{judge}
 use Rattle.runs.proofs.Played.{one-accepted, one-refused}
-use Rattle.step.proofs.Outcomes.{never-zero}
+use Rattle.rules.proofs.Accepted.{never-zero}
 use Rattle.step.specs.Answer.{Answered}
 use Rattle.step.specs.declared.judge.Answer.{Answer}
 use Rattle.runs.proofs.run.play_one.Statement.{statement}
@@ -15,7 +15,7 @@ returns c =
     let the-judge-step = c .before .before .before .before .before .judge-step in
     let the-args = c .before .before .before .before .before .before .before .before .before .before .args in
     let o = judge (the-args .answers) (roomOf (the-args .t .now)) (messages (the-args .n) (the-args .t .now)) (the-args .s .now) in
-    one-accepted (the-args .n) (the-args .t .now) o (c .before .place .given .0 .0) (the-judge-step .last .0) (never-zero (the-args .answers) (the-args .n) (the-args .t .now) (the-args .s .now)) (subst (λ (r : Answer). Answered (the-args .n) (the-args .t .now) o r (the-judge-step .last .0)) (c .before .place .given .1) (the-judge-step .ensures))
+    one-accepted (the-args .n) (the-args .t .now) o (c .before .place .given .0 .0) (the-judge-step .last .0) (never-zero (the-args .answers) (roomOf (the-args .t .now)) (messages (the-args .n) (the-args .t .now)) (the-args .s .now)) (subst (λ (r : Answer). Answered (the-args .n) (the-args .t .now) o r (the-judge-step .last .0)) (c .before .place .given .1) (the-judge-step .ensures))
 
 returns-2 : tie.Need-returns-2
 returns-2 c =
