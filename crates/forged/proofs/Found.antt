@@ -8,7 +8,7 @@ use native.Mathlib.Omega.{arith}
 use borrow.Author.Tests.{eq-eqb, eqb-true, leb-true, ne-eqb}
 use lib.Dec.{eqb, leb}
 use lib.ListN.{length}
-use Rattle.messages.proofs.Chain.{left-of, right-of}
+use Rattle.messages.proofs.Chain.{bounds, left-of, right-of}
 use Rattle.record.proofs.Cut.{message-at}
 use Rattle.messages.specs.Layout.{messageWidth}
 use Rattle.messages.specs.Parts.{Message}
@@ -123,10 +123,10 @@ module _ {n : ℕ} {t row s : List ℕ} (ready : Ready n t row s) where
         (place-passed (Argument.at i) (found (Argument.at i) (takenBy s) (argumentsOf s) p e))
 
     first-place : 1 ≤ p
-    first-place = leb-true _ _ (left-of (leb 1 p) (leb p n) given-place)
+    first-place = bounds 1 p n given-place .0
 
     last-place : p ≤ n
-    last-place = leb-true _ _ (right-of (leb 1 p) (leb p n) given-place)
+    last-place = bounds 1 p n given-place .1
 
     pub safe : (1 ≤ p) × (p * messageWidth ≤ length t)
     safe = (first-place, in-table ready last-place)

@@ -4,8 +4,8 @@ use mathlib.Core.List.{List, [], _∷_, _++_}
 use mathlib.Core.Path.{_≡_, _∙_, refl, sym, ap, subst}
 use Prim.Native.Nat.{ℕ, _≤_, _<_}
 use native.Mathlib.Omega.{arith}
-use borrow.Author.Tests.{le-leb, lt-leb, not-false, not-true}
-use lib.Dec.{eqb}
+use borrow.Author.Tests.{le-leb, leb-true, lt-leb, not-false, not-true}
+use lib.Dec.{eqb, leb}
 use lib.ListN.{length}
 use Rattle.messages.specs.Tests.{between, same}
 
@@ -35,6 +35,9 @@ right-of true b e = e
 right-of false b e = absurd (false≢true e)
 
 -- a number and a range: two tests
+pub bounds : (l x u : ℕ) → between l x u ≡ true → (l ≤ x) × (x ≤ u)
+bounds l x u e = (leb-true l x (left-of _ _ e), leb-true x u (right-of (leb l x) _ e))
+
 pub inside : {l x u : ℕ} → l ≤ x → x ≤ u → between l x u ≡ true
 inside p q = sym (skip (le-leb _ _ p) (sym (le-leb _ _ q)))
 

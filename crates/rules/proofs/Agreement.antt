@@ -8,6 +8,7 @@ use native.Mathlib.Omega.{arith}
 use borrow.Author.Tests.{eqb-false, eqb-true}
 use lib.Dec.{eqb}
 use lib.ListN.{length}
+use Rattle.messages.proofs.Chain.{bounds}
 use Rattle.messages.specs.Layout.{AuthRequest, AuthResponse, Initiate, Invoice, Kind, Payment, anAuthRequest, body, destination, laid, requestBuyerSigned, requestSigned, requestSlip, source}
 use Rattle.messages.specs.Parts.{Message, buyerAt, gatewayAt, hashedNumbers, markAt, markNumbers, markWidth, ownerOf, sellerAt, slipAt, slipNumbers, slipWidth}
 use Rattle.messages.specs.Signed.{buyerSignedAt, buyerSignedNumbers, invoiceSignedNumbers, requestSignedAt, requestSignedNumbers}
@@ -22,7 +23,6 @@ use Rattle.rules.proofs.Claims.{as-part, facts}
 use Rattle.rules.proofs.Deeds.{Taken, by-deed, named}
 use Rattle.rules.proofs.Laid.{relaid}
 use Rattle.rules.proofs.Reached.{history}
-use Rattle.rules.proofs.Tests.{bounds}
 use Rattle.rules.proofs.Vouched.{AllSound, BuyerVouched, SellerVouched, reached-sound, sound-as}
 use Rattle.rules.specs.Agreed.{Agreed, BothOutside, _∈_}
 use Rattle.rules.specs.Codes.{Argument, Deed, asks, forges, invoices, pays, replies, starts}

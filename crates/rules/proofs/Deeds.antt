@@ -6,14 +6,14 @@ use mathlib.Core.Path.{_≡_, _∙_, refl, sym, subst}
 use Prim.Native.Nat.{ℕ, _-_}
 use lib.ListN.{length}
 use native.Mathlib.Omega.{arith}
-use Rattle.messages.proofs.Chain.{left-of, right-of}
+use Rattle.messages.proofs.Chain.{bounds, left-of, right-of}
 use Rattle.messages.specs.Layout.{AuthRequest, AuthResponse, Initiate, Invoice, Kind, Payment}
 use Rattle.messages.specs.Parts.{Message}
 use Rattle.record.specs.Table.{Record, messageAt}
 use Rattle.messages.specs.Tests.{all, between}
 use Rattle.rules.proofs.Accepted.{Passed, is-accepted}
 use Rattle.rules.proofs.Arguments.{passed-given}
-use Rattle.rules.proofs.Tests.{all-member, bounds, member-at, picked}
+use Rattle.rules.proofs.Tests.{all-member, member-at, picked}
 use Rattle.rules.specs.Agreed.{_∈_}
 use Rattle.rules.specs.Codes.{Argument, Deed, Item, Row, asks, forges, invoices, known, pays, replies, rowOf, row, rows, starts}
 use Rattle.rules.specs.Forged.{copied, given, gives, itemOr}

@@ -3,9 +3,8 @@ use mathlib.Core.Bool.{Bool, true, false, cond}
 use mathlib.Core.List.{List, [], _∷_}
 use mathlib.Core.Path.{_≡_, _∙_, refl, ap}
 use Prim.Native.Nat.{ℕ, _≤_}
-use Rattle.messages.proofs.Chain.{left-of, right-of}
+use Rattle.messages.proofs.Chain.{bounds, left-of, right-of}
 use Rattle.messages.specs.Tests.{all, between}
-use Rattle.rules.proofs.Tests.{bounds}
 use Rattle.rules.specs.Gates.{Gate, through}
 
 -- each gate stands open

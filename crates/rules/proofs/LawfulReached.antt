@@ -9,7 +9,7 @@ use borrow.Author.Tests.{eqb-false, le-leb, leb-true}
 use lib.Dec.{eqb}
 use lib.ListN.{length, length-append}
 use native.Mathlib.Omega.{arith}
-use Rattle.messages.proofs.Chain.{left-of, right-of}
+use Rattle.messages.proofs.Chain.{inside, left-of, right-of}
 use Rattle.record.proofs.Cut.{length-cut}
 use Rattle.record.specs.Lawful.{Range, accounts, buyers, codes, draws, fits, lawful, markRanges, sellers, slipRanges, within}
 use Rattle.messages.specs.Layout.{AuthRequest, AuthResponse, Initiate, Invoice, Kind, Payment, body, destination, invoiceSigned, messageWidth, paymentSigned, replySigned, requestBuyerSigned, requestSigned, requestSlip, source}
@@ -28,7 +28,7 @@ use Rattle.rules.proofs.Arguments.{not-given, passed-given}
 use Rattle.rules.proofs.Deeds.{Taken, by-deed, hashedBuilt, item-of, markBuilt, member-place, named, ranged, slipBuilt, two-named}
 use Rattle.rules.proofs.Ranges.{BuyerSigned✓, Hashed✓, InvoiceSigned✓, Mark✓, ReplySigned✓, RequestSigned✓, Slip✓, fits-append, fits-at, fits-part, lawful-initiate, lawful-invoice, lawful-number, lawful-part, lawful-payment, lawful-reply, lawful-request}
 use Rattle.rules.proofs.Reached.{kept-reached}
-use Rattle.rules.proofs.Tests.{all-append, all-member, both, bounded, either, other, picked}
+use Rattle.rules.proofs.Tests.{all-append, all-member, both, either, other, picked}
 use Rattle.rules.specs.Agreed.{_∈_}
 use Rattle.rules.specs.Codes.{Argument, Deed, Item, asks, forges, invoices, pays, replies, starts}
 use Rattle.rules.specs.Forged.{account, buyer, buyerSignature, code, drawn, given, gives, hashed, invoiceSignature, itemOr, mark, noBuyer, noGateway, noSeller, replySignature, requestSignature, seller, slip}
@@ -135,7 +135,7 @@ module _ {room : ℕ} {R : Record} {d : Deed} {ks : List Argument} {xs : List �
           let most : n ≤ length R = leb-true n (length R) (passed-given Argument.a (placed (length R)) ks xs (t .passed .places) g) in
           let held = passed-given Argument.a (holding R) ks xs (t .passed .held) g in
           let least : 1 ≤ n = omega (arith, eqb-false n 0 e) in
-          readable-slip w (lawful-at w (member-place R n (bounded 1 n (length R) least most)))
+          readable-slip w (lawful-at w (member-place R n (inside least most)))
           (other (eqb n 0) (readable w) held e)
 
   buyer✓ : within buyers (buyer R ks xs .0) ≡ true
@@ -206,7 +206,7 @@ module _ (answers room : ℕ) (small : room ≤ mostRoom) (R : Record) (ks : Lis
       let roomy = t .passed .roomy in
       lawful-initiate B B (theSeller R ks xs) (record { drawn = record { drawer = B; draw = n }; account = accountOf B }) b b
       (seller✓ all-lawful t)
-      (both b (both (bounded 1 n mostRoom (omega arith) (omega arith)) (both b refl)))
+      (both b (both (inside {l = 1} {x = n} {u = mostRoom} (omega arith) (omega arith)) (both b refl)))
   lawful-added invoices t =
       let S = theSeller R ks xs in
       let I = theInitiate R ks xs in

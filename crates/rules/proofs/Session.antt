@@ -7,6 +7,7 @@ use Prim.Native.Nat.{ℕ, _+_, _-_}
 use lib.ListN.{List·getD-append, length, length-append}
 use lib.Seq.{getD-at, take-at}
 use native.Mathlib.Omega.{arith}
+use Rattle.messages.proofs.Chain.{bounds, inside}
 use Rattle.record.specs.Lawful.{buyers, sellers, within}
 use Rattle.messages.specs.Layout.{AuthRequest, Initiate, Invoice, Payment}
 use Rattle.messages.specs.Parts.{Message}
@@ -21,7 +22,7 @@ use Rattle.rules.proofs.Claims.{claimed}
 use Rattle.rules.proofs.Deeds.{member-place}
 use Rattle.rules.proofs.Reached.{grown}
 use Rattle.rules.proofs.Reports.{agreed-report}
-use Rattle.rules.proofs.Tests.{both, bounded, bounds}
+use Rattle.rules.proofs.Tests.{both}
 use Rattle.rules.specs.Agreed.{Agreed, Reported, _∈_}
 use Rattle.rules.specs.Honest.{askClaims, asked, holds, invoiceClaims, invoiced, paid, payClaims, replied, replyClaims}
 use Rattle.rules.specs.Items.{isKind}
@@ -44,14 +45,14 @@ placed-in R rest p x h =
     let b = bounds 1 (p .0) (length R) (h .inside) in
     record {
       message = List·getD-append R rest [] (p .0 - 1) (omega arith) ∙ h .message;
-      inside = bounded 1 (p .0) (length (R ++ rest)) (b .0) (omega (arith, length-append R rest));
+      inside = inside (b .0) (omega (arith, length-append R rest));
     }
 
 placed-end : (R : Record) (x : Message) → Placed (R ++ (x ∷ [])) (newPlace R) x
 placed-end R x =
     record {
       message = getD-at R x [] [] (length R + 1 - 1) (omega arith);
-      inside = bounded 1 (length R + 1) (length (R ++ (x ∷ []))) (omega arith) (omega (arith, length-append R (x ∷ [])));
+      inside = inside {l = 1} {x = length R + 1} (omega arith) (omega (arith, length-append R (x ∷ [])));
     }
 
 module _ (answers room : ℕ) where

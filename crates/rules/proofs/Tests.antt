@@ -1,22 +1,12 @@
 -- Laws of the tests that the definitions are made of: what a chain, a test of each element and a comparison say when they pass,
--- and when they pass. (The two halves of a chain are `left-of` and `right-of` of the record's `Chain`.)
+-- and when they pass. (The two halves of a chain, and a number between two, are in `Chain` of messages.)
 use mathlib.Core.Bool.{Bool, true, false, cond, _&&_, _||_, false≢true, true≢false}
-use mathlib.Core.List.{
-  List,
-  List·Memᴰ,
-  List·Memᴰ·cases-cons,
-  List·Memᴰ·head,
-  List·Memᴰ·not-nil,
-  Memᴰ·append-right,
-  [],
-  _++_,
-  _∷_,
-}
+use mathlib.Core.List.{List, List·Memᴰ, List·Memᴰ·cases-cons, List·Memᴰ·head, List·Memᴰ·not-nil, Memᴰ·append-right, [], _++_, _∷_}
 use mathlib.Core.Logic.{_⊎_, inl, inr, ⊎-elim}
 use mathlib.Core.Path.{_≡_, _∙_, refl, sym, ap, ap₂, subst}
-use Prim.Native.Nat.{ℕ, _≤_, _<_}
-use borrow.Author.Tests.{eq-eqb, eqb-true, le-leb, leb-true}
-use lib.Dec.{eqb, leb}
+use Prim.Native.Nat.{ℕ, _<_}
+use borrow.Author.Tests.{eq-eqb, eqb-true}
+use lib.Dec.{eqb}
 use lib.ListN.{getD, length, take}
 use lib.Seq.{split-at}
 use Rattle.messages.proofs.Chain.{left-of, right-of}
@@ -33,13 +23,6 @@ either false b e = inr e
 pub other : (a b : Bool) → (a || b) ≡ true → a ≡ false → b ≡ true
 other true b e f = absurd (true≢false f)
 other false b e f = e
-
--- a number between two
-pub bounds : (a x b : ℕ) → between a x b ≡ true → (a ≤ x) × (x ≤ b)
-bounds a x b e = (leb-true a x (left-of _ _ e), leb-true x b (right-of (leb a x) _ e))
-
-pub bounded : (a x b : ℕ) → a ≤ x → x ≤ b → between a x b ≡ true
-bounded a x b p q = both (le-leb a x p) (le-leb x b q)
 
 -- what holds of both branches
 pub picked : {A : Type 0} (P : A → Type 0) (b : Bool) (x y : A) → (b ≡ true → P x) → (b ≡ false → P y) → P (cond b x y)

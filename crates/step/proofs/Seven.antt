@@ -6,10 +6,8 @@ use mathlib.Core.Path.{_≡_, _∙_, refl, sym, ap, subst}
 use Prim.Native.Nat.{ℕ, zero, suc, _+_, _*_, _≤_, _<_}
 use native.Mathlib.Nat.{le-of-suc-le-suc, not-suc-le-zero}
 use native.Mathlib.Omega.{arith}
-use borrow.Author.Tests.{leb-true}
-use lib.Dec.{leb}
 use lib.ListN.{getD, length}
-use Rattle.messages.proofs.Chain.{left-of, right-of}
+use Rattle.messages.proofs.Chain.{bounds, left-of, right-of}
 use Rattle.record.proofs.Cut.{message-at}
 use Rattle.messages.specs.Layout.{messageWidth}
 use Rattle.messages.specs.Parts.{Message}
@@ -64,15 +62,15 @@ module _ {n : ℕ} {t row s : List ℕ} (ready : Ready n t row s) where
   -- argument i is the place of a message, by what the row of this code has there
   module _ (code i : ℕ) (e : codeOf s ≡ code) (h : i < 6)
       (w : placed n (getD (rowOf code .takes) i Argument.unused) (getD s (i + 1) 0) ≡ placed n (Argument.at Rattle.rules.specs.Codes.h) (getD s (i + 1) 0)) where
-    bounds : placed n (Argument.at Rattle.rules.specs.Codes.h) (getD s (i + 1) 0) ≡ true
-    bounds =
+    in-range : placed n (Argument.at Rattle.rules.specs.Codes.h) (getD s (i + 1) 0) ≡ true
+    in-range =
         sym w ∙ subst (λ (c : ℕ). placed n (getD (rowOf c .takes) i Argument.unused) (getD s (i + 1) 0) ≡ true) e (named-place i h)
 
     pub first-place : 1 ≤ getD s (i + 1) 0
-    first-place = leb-true _ _ (left-of (leb 1 (getD s (i + 1) 0)) (leb (getD s (i + 1) 0) n) bounds)
+    first-place = bounds 1 (getD s (i + 1) 0) n in-range .0
 
     pub last-place : getD s (i + 1) 0 ≤ n
-    last-place = leb-true _ _ (right-of (leb 1 (getD s (i + 1) 0)) (leb (getD s (i + 1) 0) n) bounds)
+    last-place = bounds 1 (getD s (i + 1) 0) n in-range .1
 
     pub safe-place : (1 ≤ getD s (i + 1) 0) × (getD s (i + 1) 0 * messageWidth ≤ length t)
     safe-place = (first-place, in-table ready last-place)
