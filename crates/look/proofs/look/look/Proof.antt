@@ -1,11 +1,11 @@
--- `reports::look::look` meets its promise.
+-- `look::look::look` meets its promise.
 use borrow.Author.Needs.{needs}
 use mathlib.Core.Path.{subst}
 use Rattle.record.specs.Table.{Record}
-use Rattle.reports.specs.Looked.{Looked, seenOf}
-use Rattle.reports.specs.declared.look.Seen.{Seen}
-use Rattle.reports.proofs.look.look.Statement.{statement}
-use Rattle.reports.proofs.look.look.Tie as tie
+use Rattle.look.specs.Looked.{Looked, seenOf}
+use Rattle.look.specs.declared.look.Seen.{Seen}
+use Rattle.look.proofs.look.look.Statement.{statement}
+use Rattle.look.proofs.look.look.Tie as tie
 
 returns : tie.Need-returns
 returns c =

@@ -13,11 +13,10 @@ use Rattle.messages.specs.Layout.{messageWidth}
 use Rattle.messages.specs.Parts.{Message}
 use Rattle.record.proofs.Cut.{cut-next}
 use Rattle.record.specs.Table.{Record, messageIn, messages}
-use Rattle.messages.specs.Tests.{all, every, same}
-use Rattle.messages.specs.declared.parts.Mark.{Mark}
-use Rattle.reports.specs.Looked.{passed, seenIn, seenOf}
-use Rattle.reports.specs.declared.look.Seen.{Seen}
-use Rattle.rules.specs.Report.{agreed, stands}
+use Rattle.messages.specs.Tests.{same}
+use Rattle.look.specs.Looked.{seenOf}
+use Rattle.look.specs.declared.look.Seen.{Seen}
+use Rattle.rules.specs.Report.{stands}
 
 pub unlike : (a b : List ℕ) → (length a ≡ length b → ⊥) → false ≡ same a b
 unlike [] [] h = absurd (h refl)
@@ -101,16 +100,3 @@ next-counted t i first {m} e = by (ltb i first) refl
         let w = ltb-false i first h in
         let k : min i first ≡ min (i + 1) first = omega arith in
         ap (λ (z : ℕ). messages z t) k
-
--- all four, by what has been seen
-pub agreed-seen : (x : Mark) (R : Record) {s : Seen} → s ≡ seenIn x R
-    → agreed x R ≡ every (eqb (x .hashed .account .0) (x .buyer .0) ∷ s .initiated ∷ s .invoiced ∷ s .paid ∷ s .asked ∷ [])
-agreed-seen x R {s} e =
-    ap
-    (λ (z : Seen). every (eqb (x .hashed .account .0) (x .buyer .0) ∷ z .initiated ∷ z .invoiced ∷ z .paid ∷ z .asked ∷ []))
-    (sym e)
-
--- in a trusted record every message is passed
-pub all-trusted : (R : Record) → all (passed true) R ≡ true
-all-trusted [] = refl
-all-trusted (m ∷ R) = all-trusted R

@@ -1,10 +1,10 @@
--- `reports::payment::its_request` meets its promise.
+-- `look::payment::its_request` meets its promise.
 use borrow.Author.Needs.{needs}
 use mathlib.Core.Path.{_∙_, ap}
 use Rattle.messages.specs.declared.parts.Slip.{Slip}
 use Rattle.rules.specs.Honest.{requestBy}
-use Rattle.reports.proofs.payment.its_request.Statement.{statement}
-use Rattle.reports.proofs.payment.its_request.Tie as tie
+use Rattle.look.proofs.payment.its_request.Statement.{statement}
+use Rattle.look.proofs.payment.its_request.Tie as tie
 
 returns : tie.Need-returns
 returns c =

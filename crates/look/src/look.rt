@@ -18,7 +18,7 @@ ghost use Rattle.messages.specs.Layout.{messageWidth};
 ghost use Rattle.messages.specs.Tests.{same};
 ghost use Rattle.record.specs.Lent.{leastNumbers, mostNumbers};
 ghost use Rattle.record.specs.Table.{Record};
-ghost use Rattle.reports.specs.Looked.{Looked, passed, seenIn, seenOf};
+ghost use Rattle.look.specs.Looked.{Looked, passed, seenIn, seenOf};
 
 // Which of the four stand.
 pub struct Seen {

@@ -1,9 +1,9 @@
--- `reports::look::noted` meets its promise.
+-- `look::look::noted` meets its promise.
 use borrow.Author.Needs.{needs}
 use borrow.Author.Tests.{not-false, not-true}
-use Rattle.reports.proofs.Standing.{counted, not-counted}
-use Rattle.reports.proofs.look.noted.Statement.{statement}
-use Rattle.reports.proofs.look.noted.Tie as tie
+use Rattle.look.proofs.Standing.{counted, not-counted}
+use Rattle.look.proofs.look.noted.Statement.{statement}
+use Rattle.look.proofs.look.noted.Tie as tie
 
 returns : tie.Need-returns
 returns c =

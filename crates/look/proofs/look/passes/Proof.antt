@@ -1,8 +1,8 @@
--- `reports::look::passes` meets its promise.
+-- `look::look::passes` meets its promise.
 use borrow.Author.Needs.{needs}
 use Rattle.messages.proofs.Picks.{other}
-use Rattle.reports.proofs.look.passes.Statement.{statement}
-use Rattle.reports.proofs.look.passes.Tie as tie
+use Rattle.look.proofs.look.passes.Statement.{statement}
+use Rattle.look.proofs.look.passes.Tie as tie
 
 returns-2 : tie.Need-returns-2
 returns-2 c = other (c .before .if1 .left) (c .is-lawful-by .ensures)

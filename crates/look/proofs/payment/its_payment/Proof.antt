@@ -1,10 +1,10 @@
--- `reports::payment::its_payment` meets its promise.
+-- `look::payment::its_payment` meets its promise.
 use borrow.Author.Needs.{needs}
 use mathlib.Core.Path.{_∙_, ap}
 use Rattle.messages.specs.declared.parts.Slip.{Slip}
 use Rattle.rules.specs.Honest.{paymentBy}
-use Rattle.reports.proofs.payment.its_payment.Statement.{statement}
-use Rattle.reports.proofs.payment.its_payment.Tie as tie
+use Rattle.look.proofs.payment.its_payment.Statement.{statement}
+use Rattle.look.proofs.payment.its_payment.Tie as tie
 
 returns : tie.Need-returns
 returns c =

@@ -1,4 +1,4 @@
--- `reports::look::look_for` meets its promise.
+-- `look::look::look_for` meets its promise.
 use Prim.Native.Nat.{_-_, _≤_, min, ℕ}
 use borrow.Author.Needs.{needs}
 use lib.ListN.{drop}
@@ -9,10 +9,10 @@ use Rattle.messages.proofs.Chain.{goes-on, leaves}
 use Rattle.messages.specs.Tests.{all}
 use Rattle.record.proofs.Cut.{test-next, test-over}
 use Rattle.record.specs.Table.{messages}
-use Rattle.reports.proofs.Standing.{next-counted, none-seen}
-use Rattle.reports.specs.Looked.{passed, seenOf}
-use Rattle.reports.proofs.look.look_for.Statement.{statement}
-use Rattle.reports.proofs.look.look_for.Tie as tie
+use Rattle.look.proofs.Standing.{next-counted, none-seen}
+use Rattle.look.specs.Looked.{passed, seenOf}
+use Rattle.look.proofs.look.look_for.Statement.{statement}
+use Rattle.look.proofs.look.look_for.Tie as tie
 
 abbrev Inv-loop : tie.InvT-loop
 Inv-loop t n earlier trusted initiate invoice payment request least most seen₀ i₀ seen i =

@@ -1,4 +1,4 @@
--- `reports::look::same_message` meets its promise.
+-- `look::look::same_message` meets its promise.
 use Prim.Native.Nat.{_-_, _≤_}
 use borrow.Author.Needs.{needs}
 use borrow.Author.Tests.{eq-eqb, ne-eqb}
@@ -7,9 +7,9 @@ use mathlib.Core.Path.{_∙_, _≡_, refl, sym}
 use native.Mathlib.Omega.{arith}
 use Rattle.messages.proofs.Chain.{skip, stop}
 use Rattle.messages.specs.Tests.{same}
-use Rattle.reports.proofs.Standing.{same-from, same-over, unlike}
-use Rattle.reports.proofs.look.same_message.Statement.{statement}
-use Rattle.reports.proofs.look.same_message.Tie as tie
+use Rattle.look.proofs.Standing.{same-from, same-over, unlike}
+use Rattle.look.proofs.look.same_message.Statement.{statement}
+use Rattle.look.proofs.look.same_message.Tie as tie
 
 abbrev Inv-loop : tie.InvT-loop
 Inv-loop a b i₀ i = (i ≤ length a) × (same (drop i a) (drop i b) ≡ same a b)

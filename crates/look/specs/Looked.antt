@@ -9,8 +9,8 @@ use Rattle.messages.specs.Tests.{all}
 use Rattle.messages.specs.declared.parts.Mark.{Mark}
 use Rattle.record.specs.Lawful.{lawful}
 use Rattle.record.specs.Table.{Record, messages}
-use Rattle.reports.specs.declared.look.Found.{Found}
-use Rattle.reports.specs.declared.look.Seen.{Seen}
+use Rattle.look.specs.declared.look.Found.{Found}
+use Rattle.look.specs.declared.look.Seen.{Seen}
 use Rattle.rules.specs.Report.{itsInitiate, itsInvoice, itsPayment, itsRequest, stands}
 
 abbrev pub seenOf : Message → Message → Message → Message → Record → Seen
