@@ -1,9 +1,9 @@
--- `arguments::faults::zero_fault` meets its promise.
+-- `faults::zero_fault` meets its promise.
 use borrow.Author.Tests.{eq-eqb, ne-eqb}
 use mathlib.Core.Path.{refl}
 use Rattle.messages.proofs.Picks.{no, yes}
-use Rattle.arguments.proofs.faults.zero_fault.Statement.{statement}
-use Rattle.arguments.proofs.faults.zero_fault.Tie as tie
+use Rattle.faults.proofs.zero_fault.Statement.{statement}
+use Rattle.faults.proofs.zero_fault.Tie as tie
 
 returns : tie.Need-returns
 returns c = yes _ (eq-eqb _ _ (c .if1 .taken)) refl

@@ -1,4 +1,4 @@
--- `arguments::faults::first_fault` meets its promise.
+-- `faults::first_fault` meets its promise.
 use Prim.Native.Nat.{_+_, _-_, _≤_, min, ℕ}
 use borrow.Author.Tests.{not-false, not-true}
 use lib.ListN.{drop, getD}
@@ -9,12 +9,12 @@ use Rattle.messages.proofs.Picks.{no, yes}
 use Rattle.record.specs.Table.{messages}
 use Rattle.rules.specs.Codes.{Argument, rowOf}
 use Rattle.rules.specs.Step.{argumentsOf, codeOf}
-use Rattle.arguments.proofs.Ends.{ended}
-use Rattle.arguments.proofs.Lowest.{at-most, fault-least, none-left, three-found, turn}
+use Rattle.faults.proofs.Ends.{ended}
+use Rattle.faults.proofs.Lowest.{at-most, fault-least, none-left, three-found, turn}
 use Rattle.arguments.proofs.Takes.{letter-at, six-letters}
-use Rattle.arguments.specs.Faults.{faults}
-use Rattle.arguments.proofs.faults.first_fault.Statement.{statement}
-use Rattle.arguments.proofs.faults.first_fault.Tie as tie
+use Rattle.faults.specs.Faults.{faults}
+use Rattle.faults.proofs.first_fault.Statement.{statement}
+use Rattle.faults.proofs.first_fault.Tie as tie
 
 start : (x : ℕ) → x ≤ 9 → min 9 x ≡ x
 start x l = omega arith

@@ -1,4 +1,4 @@
--- The refusals of arguments: a letter tells its argument, the fault of one argument by its sort, and the step's as the lowest of the six.
+-- The refusals of arguments: the fault of one argument by its sort, and the step's as the lowest of the six.
 use mathlib.Core.Bool.{Bool, true, false, _&&_, _||_, cond}
 use mathlib.Core.List.{List}
 use mathlib.Core.Path.{_≡_, _∙_, refl, sym, ap, ap₂, subst}
@@ -15,33 +15,10 @@ use Rattle.record.specs.Table.{Record, messageAt}
 use Rattle.rules.specs.Codes.{Argument, Item, letter, rowOf}
 use Rattle.rules.specs.Items.{eachArgument, holding, inRange, placed, readable}
 use Rattle.rules.specs.Step.{argumentsOf, codeOf}
-use Rattle.arguments.specs.Faults.{faultOf, faults, fine, placeFault, zeroFault}
+use Rattle.faults.specs.Faults.{faultOf, faults, fine, placeFault, zeroFault}
 use Rattle.arguments.specs.Letters.{argumentLettered}
 use Rattle.arguments.specs.Ready.{Known}
-use Rattle.arguments.proofs.Takes.{argument-at, six, six-arguments}
-
-lettered : (k : Argument) → argumentLettered (letter k) ≡ k
-lettered Argument.unused = refl
-lettered Argument.B = refl
-lettered Argument.S = refl
-lettered Argument.c = refl
-lettered Argument.a = refl
-lettered (Argument.the Initiate) = refl
-lettered (Argument.the Invoice) = refl
-lettered (Argument.the Payment) = refl
-lettered (Argument.the AuthRequest) = refl
-lettered (Argument.the AuthResponse) = refl
-lettered (Argument.at Item.h) = refl
-lettered (Argument.at Item.m) = refl
-lettered (Argument.at Item.e) = refl
-lettered (Argument.at Item.r) = refl
-lettered (Argument.at Item.v) = refl
-lettered (Argument.at Item.q) = refl
-lettered (Argument.at Item.p) = refl
-lettered (Argument.at Item.g) = refl
-
-pub tells : (k : Argument) (x : ℕ) → letter k ≡ x → argumentLettered x ≡ k
-tells k x e = ap argumentLettered (sym e) ∙ lettered k
+use Rattle.arguments.proofs.Takes.{argument-at, six, six-arguments, tells}
 
 -- an argument that is a place: a message there must have what it asks for, and 0 is none but for his own account
 borrowed : (n : ℕ) (R : Record) (x : ℕ) → (x ≡ 0 → ⊥) → placeFault n R Argument.a x ≡ faultOf n R Argument.a x

@@ -1,9 +1,9 @@
--- `arguments::faults::range_fault` meets its promise.
+-- `faults::range_fault` meets its promise.
 use mathlib.Core.Path.{refl}
 use Rattle.messages.proofs.Chain.{above, below, inside}
 use Rattle.messages.proofs.Picks.{no, yes}
-use Rattle.arguments.proofs.faults.range_fault.Statement.{statement}
-use Rattle.arguments.proofs.faults.range_fault.Tie as tie
+use Rattle.faults.proofs.range_fault.Statement.{statement}
+use Rattle.faults.proofs.range_fault.Tie as tie
 
 returns : tie.Need-returns
 returns c = no _ (below _ (c .if1 .taken)) refl

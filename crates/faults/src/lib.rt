@@ -1,7 +1,7 @@
 // Refusals 3, 4 and 5: the first that an argument of a step gives. All ranges come before any place, and all places before any item,
 // whatever the argument's position, so of the numbers that the arguments give the lowest is the step's.
-use crate::codes::MOST_ARGUMENTS;
-use crate::items::yields;
+use arguments::codes::MOST_ARGUMENTS;
+use arguments::items::yields;
 use messages::parts::Place;
 use record::table::message;
 ghost use mathlib.Core.Path.{_≡_};
@@ -12,9 +12,9 @@ ghost use Rattle.messages.specs.Tests.{all};
 ghost use Rattle.record.specs.Table.{messages};
 ghost use Rattle.rules.specs.Codes.{Argument, letter as letterOf, rowOf, unused};
 ghost use Rattle.rules.specs.Step.{argumentsOf, codeOf};
-ghost use Rattle.arguments.specs.Faults.{faultOf, faults, isZero, placeFault, rangeFault, zeroFault};
+ghost use Rattle.faults.specs.Faults.{faultOf, faults, isZero, placeFault, rangeFault, zeroFault};
 ghost use Rattle.arguments.specs.Letters.{argumentLettered};
 ghost use Rattle.arguments.specs.Ready.{Known};
 
 // No refusal; above every number of one.
 pub const FINE: u8 = 9;

@@ -1,11 +1,11 @@
--- `arguments::faults::fault` meets its promise.
+-- `faults::fault` meets its promise.
 use borrow.Author.Needs.{needs}
 use mathlib.Core.Path.{_∙_, ap, sym}
 use Rattle.record.specs.Table.{messages}
-use Rattle.arguments.specs.Faults.{zeroFault}
-use Rattle.arguments.proofs.Lowest.{at-place, at-zero, by-letter, by-place}
-use Rattle.arguments.proofs.faults.fault.Statement.{statement}
-use Rattle.arguments.proofs.faults.fault.Tie as tie
+use Rattle.faults.specs.Faults.{zeroFault}
+use Rattle.faults.proofs.Lowest.{at-place, at-zero, by-letter, by-place}
+use Rattle.faults.proofs.fault.Statement.{statement}
+use Rattle.faults.proofs.fault.Tie as tie
 
 returns : tie.Need-returns
 returns c =

@@ -1,4 +1,4 @@
--- `arguments::faults::all_unused` meets its promise.
+-- `faults::all_unused` meets its promise.
 use Prim.Native.Nat.{_-_, _≤_}
 use borrow.Author.Tests.{eq-eqb, ne-eqb}
 use lib.ListN.{drop}
@@ -7,10 +7,10 @@ use native.Mathlib.Omega.{arith}
 use Rattle.messages.proofs.Chain.{skip, stop}
 use Rattle.messages.specs.Tests.{all}
 use Rattle.rules.specs.Step.{argumentsOf}
-use Rattle.arguments.proofs.Ends.{zero-from, zero-over}
-use Rattle.arguments.specs.Faults.{isZero}
-use Rattle.arguments.proofs.faults.all_unused.Statement.{statement}
-use Rattle.arguments.proofs.faults.all_unused.Tie as tie
+use Rattle.faults.proofs.Ends.{zero-from, zero-over}
+use Rattle.faults.specs.Faults.{isZero}
+use Rattle.faults.proofs.all_unused.Statement.{statement}
+use Rattle.faults.proofs.all_unused.Tie as tie
 
 abbrev Inv-loop : tie.InvT-loop
 Inv-loop s from i₀ i = (i ≤ 6) × (all isZero (drop i (argumentsOf s)) ≡ all isZero (drop from (argumentsOf s)))

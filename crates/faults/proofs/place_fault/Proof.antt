@@ -1,12 +1,12 @@
--- `arguments::faults::place_fault` meets its promise.
+-- `faults::place_fault` meets its promise.
 use borrow.Author.Needs.{needs}
 use mathlib.Core.Path.{_∙_, ap, refl, sym}
 use Rattle.record.proofs.Cut.{message-at}
 use Rattle.messages.proofs.Chain.{above, below, failed, held, inside}
 use Rattle.messages.proofs.Picks.{no, yes}
 use Rattle.arguments.specs.Letters.{argumentLettered, offers}
-use Rattle.arguments.proofs.faults.place_fault.Statement.{statement}
-use Rattle.arguments.proofs.faults.place_fault.Tie as tie
+use Rattle.faults.proofs.place_fault.Statement.{statement}
+use Rattle.faults.proofs.place_fault.Tie as tie
 
 returns : tie.Need-returns
 returns c = no _ (below _ (c .if1 .taken)) refl

@@ -16,10 +16,9 @@ use Rattle.record.specs.Table.{Record}
 use Rattle.rules.specs.Codes.{Argument, Row, letter, row, rowOf, rows, starts, unused}
 use Rattle.rules.specs.Items.{eachArgument, holding, inRange, placed}
 use Rattle.rules.specs.Step.{argumentsOf, codeOf}
-use Rattle.arguments.proofs.Lowest.{tells}
-use Rattle.arguments.proofs.Takes.{argument-at, letter-at, six, six-arguments}
-use Rattle.arguments.specs.Faults.{faults, isZero}
+use Rattle.arguments.proofs.Takes.{argument-at, letter-at, six, six-arguments, tells}
+use Rattle.faults.specs.Faults.{faults, isZero}
 use Rattle.arguments.specs.Ready.{Known}
 
 abbrev isUnused : Argument → Bool
 isUnused k = eqb (letter k) 45
