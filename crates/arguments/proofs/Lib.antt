@@ -1,5 +1,3 @@
-pub mod Ends
-pub mod Lowest
 pub mod Offered
 pub mod Places
 pub mod Takes

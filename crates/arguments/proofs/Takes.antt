@@ -12,13 +12,15 @@ use lib.Dec.{eqb, leb}
 use lib.ListN.{List·getD-map, drop, drop-of-length-le, getD, length, length-drop, length-map, take}
 use lib.Seq.{drop-cons, getD-drop}
 use Rattle.messages.proofs.Chain.{left-of, right-of}
+use Rattle.messages.specs.Layout.{AuthRequest, AuthResponse, Initiate, Invoice, Payment}
 use Rattle.record.proofs.Cut.{cut-at, part}
 use Rattle.record.proofs.Rows.{even-at}
-use Rattle.rules.specs.Codes.{Argument, Row, known, letter, row, rowOf, rows, starts, unused}
+use Rattle.rules.specs.Codes.{Argument, Item, Row, known, letter, row, rowOf, rows, starts, unused}
 use Rattle.rules.specs.Forged.{given, gives}
 use Rattle.rules.specs.Step.{argumentsOf, codeOf}
 use Rattle.arguments.specs.Given.{foundIn}
 use Rattle.arguments.specs.Lent.{rowLetters, tableLetters}
+use Rattle.arguments.specs.Letters.{argumentLettered}
 use Rattle.arguments.specs.Ready.{Known}
 use Rattle.arguments.specs.declared.given.Given.the-variants.{At, Nothing}
 
@@ -60,6 +62,30 @@ pub letter-at : {row s : List ℕ} → Known row s → (i : ℕ) → i < 6 → g
 letter-at {s = s} k i l =
     ap (λ (z : List ℕ). getD z i 0) (k .its-row)
     ∙ mapped letter (rowOf (codeOf s) .takes) i unused 0 (subst (λ (z : ℕ). i < z) (sym (six (codeOf s) (k .low) (k .high))) l)
+
+-- a letter tells its argument
+lettered : (k : Argument) → argumentLettered (letter k) ≡ k
+lettered Argument.unused = refl
+lettered Argument.B = refl
+lettered Argument.S = refl
+lettered Argument.c = refl
+lettered Argument.a = refl
+lettered (Argument.the Initiate) = refl
+lettered (Argument.the Invoice) = refl
+lettered (Argument.the Payment) = refl
+lettered (Argument.the AuthRequest) = refl
+lettered (Argument.the AuthResponse) = refl
+lettered (Argument.at Item.h) = refl
+lettered (Argument.at Item.m) = refl
+lettered (Argument.at Item.e) = refl
+lettered (Argument.at Item.r) = refl
+lettered (Argument.at Item.v) = refl
+lettered (Argument.at Item.q) = refl
+lettered (Argument.at Item.p) = refl
+lettered (Argument.at Item.g) = refl
+
+pub tells : (k : Argument) (x : ℕ) → letter k ≡ x → argumentLettered x ≡ k
+tells k x e = ap argumentLettered (sym e) ∙ lettered k
 
 -- a step of seven numbers with a known code, and the row of that code
 pub known-step : {row s : List ℕ} → length s ≡ 7 → known (codeOf s) ≡ true → row ≡ rowLetters (rowOf (codeOf s)) → Known row s

@@ -1,5 +1,4 @@
-// The arguments of a step: what each of its numbers is, by its code, what it gives by them, and refusals 2 to 5.
+// The arguments of a step: what each of its numbers is, by its code, what it gives by them, what a message yields, and refusal 2.
 pub mod codes;
-pub mod faults;
 pub mod given;
 pub mod items;

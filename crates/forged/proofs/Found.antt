@@ -18,10 +18,9 @@ use Rattle.rules.specs.Codes.{Argument, Item, letter}
 use Rattle.rules.specs.Forged.{copied, given, gives}
 use Rattle.rules.specs.Items.{eachArgument, placed, slipIn}
 use Rattle.rules.specs.Step.{argumentsOf, codeOf}
-use Rattle.arguments.proofs.Lowest.{tells}
 use Rattle.arguments.proofs.Places.{in-table}
 use Rattle.messages.proofs.Picks.{no, yes}
-use Rattle.arguments.proofs.Takes.{six, six-arguments}
+use Rattle.arguments.proofs.Takes.{six, six-arguments, tells}
 use Rattle.arguments.specs.Given.{foundIn}
 use Rattle.forged.specs.Outside.{Offers, accountIn, itemIn, numberIn, takenBy}
 use Rattle.arguments.specs.Ready.{Ready}

@@ -1,7 +1,7 @@
 // The report on a reply: whether the four messages of its payment stand earlier in the record. One look through the record.
-use crate::look::Seen;
-use crate::look::both;
-use crate::look::look;
+use look::look::Seen;
+use look::look::both;
+use look::look::look;
 use messages::layout::AUTH_RESPONSE;
 use messages::layout::KIND;
 use messages::layout::MAKER;
@@ -26,7 +26,7 @@ ghost use lib.ListN.{length};
 ghost use Rattle.messages.specs.Layout.{messageWidth};
 ghost use Rattle.messages.specs.Tests.{every};
 ghost use Rattle.record.specs.Table.{Record, messages};
-ghost use Rattle.reports.specs.Looked.{seenIn};
+ghost use Rattle.look.specs.Looked.{seenIn};
 ghost use Rattle.reports.specs.ReplyAt.{ReplyAt};
 ghost use Rattle.rules.specs.Report.{houseReply, outside, report as reportOf, reportOn};
 

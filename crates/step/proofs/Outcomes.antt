@@ -14,11 +14,11 @@ use Rattle.messages.specs.Tests.{all}
 use Rattle.rules.specs.Codes.{known, rowOf}
 use Rattle.rules.specs.Items.{eachArgument, holding, inRange, placed}
 use Rattle.rules.specs.Step.{Outcome, accepted, argumentsOf, codeOf, judge, judgeRow, judgeTable, refused}
-use Rattle.arguments.proofs.Lowest.{three}
+use Rattle.faults.proofs.Lowest.{three}
 use Rattle.messages.proofs.Picks.{no, yes}
 use Rattle.step.specs.Answer.{Answered}
 use Rattle.step.specs.Coded.{addedIn, allowedIn, decided}
-use Rattle.arguments.specs.Faults.{faults}
+use Rattle.faults.specs.Faults.{faults}
 use Rattle.arguments.specs.Ready.{Known, Ready}
 use Rattle.step.specs.declared.judge.Answer.the-variants.{Accepted, Refused}
 

@@ -2,7 +2,7 @@
 use borrow.Author.Needs.{needs}
 use mathlib.Core.Path.{_∙_}
 use Rattle.record.specs.Table.{messages}
-use Rattle.reports.proofs.Standing.{all-trusted}
+use Rattle.reports.proofs.Seen.{all-trusted}
 use Rattle.reports.proofs.report.report_on.Statement.{statement}
 use Rattle.reports.proofs.report.report_on.Tie as tie
 

@@ -2,7 +2,7 @@
 use borrow.Author.Needs.{needs}
 use mathlib.Core.Path.{_∙_, refl, sym}
 use Rattle.messages.proofs.Picks.{no, yes}
-use Rattle.reports.proofs.Standing.{agreed-seen}
+use Rattle.reports.proofs.Seen.{agreed-seen}
 use Rattle.rules.specs.Report.{reportOn}
 use Rattle.reports.proofs.report.verdict.Statement.{statement}
 use Rattle.reports.proofs.report.verdict.Tie as tie
