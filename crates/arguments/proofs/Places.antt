@@ -6,10 +6,9 @@ use Prim.Native.Nat.{ℕ, _*_, _≤_}
 use native.Mathlib.Nat.{le-trans, mul-le-mul-right}
 use native.Mathlib.Omega.{arith}
 use borrow.Author.Tests.{le-leb, leb-true}
-use lib.Dec.{leb}
 use lib.ListN.{length}
 use Rattle.arguments.specs.Ready.{Ready, ReadyStep}
-use Rattle.messages.proofs.Chain.{left-of, right-of, skip}
+use Rattle.messages.proofs.Chain.{bounds, inside, left-of, right-of, skip}
 use Rattle.messages.specs.Layout.{messageWidth}
 use Rattle.record.specs.Table.{roomOf}
 use Rattle.rules.specs.Codes.{Argument, rowOf}
@@ -27,10 +26,8 @@ wider n m h Argument.B x e = e
 wider n m h Argument.S x e = e
 wider n m h Argument.c x e = e
 wider n m h Argument.a x e = le-leb _ _ (le-trans (leb-true _ _ e) h)
-wider n m h (Argument.the k) x e =
-    sym (skip (left-of (leb 1 x) (leb x n) e) (sym (le-leb _ _ (le-trans (leb-true _ _ (right-of (leb 1 x) (leb x n) e)) h))))
-wider n m h (Argument.at i) x e =
-    sym (skip (left-of (leb 1 x) (leb x n) e) (sym (le-leb _ _ (le-trans (leb-true _ _ (right-of (leb 1 x) (leb x n) e)) h))))
+wider n m h (Argument.the k) x e = inside (bounds 1 x n e .0) (le-trans (bounds 1 x n e .1) h)
+wider n m h (Argument.at i) x e = inside (bounds 1 x n e .0) (le-trans (bounds 1 x n e .1) h)
 
 all-wider : (n m : ℕ) → n ≤ m → (ks : List Argument) (xs : List ℕ) → eachArgument (placed n) ks xs ≡ true → eachArgument (placed m) ks xs ≡ true
 all-wider n m h [] xs e = refl

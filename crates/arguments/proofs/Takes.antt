@@ -7,11 +7,10 @@ use Prim.Native.Nat.{ℕ, zero, suc, _+_, _*_, _-_, _≤_, _<_}
 use native.Mathlib.Nat.{add-comm, le-of-eq, le-of-suc-le-suc, not-suc-le-zero}
 use native.Mathlib.Numerals.{add-one}
 use native.Mathlib.Omega.{arith}
-use borrow.Author.Tests.{leb-true}
-use lib.Dec.{eqb, leb}
+use lib.Dec.{eqb}
 use lib.ListN.{List·getD-map, drop, drop-of-length-le, getD, length, length-drop, length-map, take}
 use lib.Seq.{drop-cons, getD-drop}
-use Rattle.messages.proofs.Chain.{left-of, right-of}
+use Rattle.messages.proofs.Chain.{bounds}
 use Rattle.messages.specs.Layout.{AuthRequest, AuthResponse, Initiate, Invoice, Payment}
 use Rattle.record.proofs.Cut.{cut-at, part}
 use Rattle.record.proofs.Rows.{even-at}
@@ -93,8 +92,8 @@ known-step {s = s} l e r =
     record {
       seven = l;
       its-row = r;
-      low = leb-true _ _ (left-of (leb 1 (codeOf s)) _ e);
-      high = leb-true _ _ (right-of (leb 1 (codeOf s)) (leb (codeOf s) 37) e);
+      low = bounds 1 (codeOf s) 37 e .0;
+      high = bounds 1 (codeOf s) 37 e .1;
     }
 
 -- the arguments of a step are its numbers after the code

@@ -2,11 +2,9 @@
 use mathlib.Core.Bool.{Bool, true, false, cond}
 use mathlib.Core.List.{List}
 use mathlib.Core.Path.{_≡_, _∙_, refl, sym, ap, ap₂}
-use Prim.Native.Nat.{ℕ, _-_, _≤_}
+use Prim.Native.Nat.{ℕ, _-_}
 use native.Mathlib.Omega.{arith}
-use borrow.Author.Tests.{leb-true}
-use lib.Dec.{leb}
-use Rattle.messages.proofs.Chain.{right-of}
+use Rattle.messages.proofs.Chain.{bounds}
 use Rattle.messages.proofs.Picks.{no, yes}
 use Rattle.messages.specs.Tests.{between}
 use Rattle.messages.specs.declared.parts.Place.{Place}
@@ -57,6 +55,6 @@ module _ (n : ℕ) (t : List ℕ) (p : Place) where
     unfolding report placed house
     reported z e =
         let b = open-both placed house (sym z ∙ at .refusal) in
-        let high : p .0 ≤ n = leb-true _ _ (right-of (leb 1 (p .0)) (leb (p .0) n) (b .0)) in
+        let high = bounds 1 (p .0) n (b .0) .1 in
         let before : messages (r .earlier) t ≡ _ = ap (λ (k : ℕ). messages k t) (at .earlier z) ∙ sym (take-messages (p .0 - 1) n t (omega arith)) in
         yes _ lawful (yes _ (b .0) (yes _ (b .1) (e ∙ ap₂ reportOn before (at .mark z))))
