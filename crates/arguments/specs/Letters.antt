@@ -1,8 +1,9 @@
 -- The argument that a letter of the code's table stands for, and what an argument asks of the message at its place.
 use mathlib.Core.Bool.{Bool, false, cond}
-use Prim.Native.Nat.{ℕ}
+use mathlib.Core.List.{List, [], _∷_}
+use Prim.Native.Nat.{ℕ, _+_, _^_}
 use lib.Dec.{eqb}
-use Rattle.messages.specs.Layout.{AuthRequest, AuthResponse, Initiate, Invoice, Payment}
+use Rattle.messages.specs.Layout.{AuthRequest, AuthResponse, Initiate, Invoice, Kind, Payment, kindNumber}
 use Rattle.messages.specs.Parts.{Message}
 use Rattle.rules.specs.Codes.{Argument, Item}
 use Rattle.rules.specs.Items.{isKind, readable, yields}
@@ -39,23 +40,24 @@ offers (Argument.at i) x = yields i x
 abbrev pub honestLetter : ℕ → ℕ
 honestLetter z = cond (eqb z 1) 73 (cond (eqb z 2) 86 (cond (eqb z 3) 80 (cond (eqb z 4) 81 (cond (eqb z 5) 82 122))))
 
--- the kinds of message that may offer what an argument asks for: bit k is set for the kind with number k
-abbrev pub kindsOf : Argument → ℕ
-kindsOf Argument.unused = 0
-kindsOf Argument.B = 0
-kindsOf Argument.S = 0
-kindsOf Argument.c = 0
-kindsOf Argument.a = 24
-kindsOf (Argument.the Initiate) = 2
-kindsOf (Argument.the Invoice) = 4
-kindsOf (Argument.the Payment) = 8
-kindsOf (Argument.the AuthRequest) = 16
-kindsOf (Argument.the AuthResponse) = 32
-kindsOf (Argument.at Item.h) = 2
-kindsOf (Argument.at Item.m) = 20
-kindsOf (Argument.at Item.e) = 24
-kindsOf (Argument.at Item.r) = 26
-kindsOf (Argument.at Item.v) = 4
-kindsOf (Argument.at Item.q) = 16
-kindsOf (Argument.at Item.p) = 24
-kindsOf (Argument.at Item.g) = 32
+-- the kinds of message in which what an argument asks for may stand
+abbrev pub kindsOf : Argument → List Kind
+kindsOf Argument.unused = []
+kindsOf Argument.B = []
+kindsOf Argument.S = []
+kindsOf Argument.c = []
+kindsOf Argument.a = Payment ∷ AuthRequest ∷ []
+kindsOf (Argument.the k) = k ∷ []
+kindsOf (Argument.at Item.h) = Initiate ∷ []
+kindsOf (Argument.at Item.m) = Invoice ∷ AuthRequest ∷ []
+kindsOf (Argument.at Item.e) = Payment ∷ AuthRequest ∷ []
+kindsOf (Argument.at Item.r) = Initiate ∷ Payment ∷ AuthRequest ∷ []
+kindsOf (Argument.at Item.v) = Invoice ∷ []
+kindsOf (Argument.at Item.q) = AuthRequest ∷ []
+kindsOf (Argument.at Item.p) = Payment ∷ AuthRequest ∷ []
+kindsOf (Argument.at Item.g) = AuthResponse ∷ []
+
+-- as one number: bit k is set for the kind with number k
+abbrev pub bits : List Kind → ℕ
+bits [] = 0
+bits (k ∷ ks) = 2 ^ kindNumber k + bits ks

@@ -24,7 +24,7 @@ ghost use Rattle.messages.specs.Layout.{Initiate, body, messageWidth};
 ghost use Rattle.messages.specs.Parts.{drawnAt};
 ghost use Rattle.rules.specs.Codes.{Item};
 ghost use Rattle.rules.specs.Items.{buyerSignedIn, drawnIn, hasSlip, isKind, readable, slipIn, yields as yieldsItem};
-ghost use Rattle.arguments.specs.Letters.{argumentLettered, honestLetter, kindsOf, offers};
+ghost use Rattle.arguments.specs.Letters.{argumentLettered, bits, honestLetter, kindsOf, offers};
 
 // Above every letter of an honest step's place.
 const NO_LETTER: u8 = b'z';
@@ -136,7 +136,7 @@ fn honest_letter(kind: u16) -> u8
 // The kinds of message in which what a small letter asks for may stand.
 fn kinds(letter: u8) -> u16
     requires { ⌜ 97 ≤ letter ⌝ }
-    ensures { λ r. ⌜ r ≡ kindsOf (argumentLettered letter) ⌝ }
+    ensures { λ r. ⌜ r ≡ bits (kindsOf (argumentLettered letter)) ⌝ }
 {
     match letter {
         b'a' => IN_SLIP,

@@ -6,12 +6,12 @@ use mathlib.Core.Bool.{Bool, cond, false, true}
 use mathlib.Core.Path.{_≡_, refl}
 use native.Mathlib.Omega.{arith}
 use Rattle.rules.specs.Codes.{Argument}
-use Rattle.arguments.specs.Letters.{kindsOf}
+use Rattle.arguments.specs.Letters.{bits, kindsOf}
 use Rattle.arguments.proofs.items.kinds.Statement.{statement}
 use Rattle.arguments.proofs.items.kinds.Tie as tie
 
 -- what is no place stands in no kind
-plain : (b : Bool) → 0 ≡ kindsOf (cond b Argument.c Argument.unused)
+plain : (b : Bool) → 0 ≡ bits (kindsOf (cond b Argument.c Argument.unused))
 plain true = refl
 plain false = refl
 
