@@ -17,7 +17,7 @@ use Rattle.rules.specs.Step.{Step}
 use Rattle.steptext.proofs.Gathered.{seven}
 use Rattle.steptext.specs.Read.{Reading, mostBytes, readLines, readSteps, readText, says, stepsIn, tooLong, unreadable}
 use Rattle.lines.specs.Lines.{Text, lines}
-use Rattle.steptext.specs.Text.{answersIn, isAnswersLine, isStepLine, stepIn}
+use Rattle.says.specs.Text.{answersIn, isAnswersLine, isStepLine, stepIn}
 use Rattle.steptext.specs.Told.{Leaves, Tells}
 use Rattle.steptext.specs.declared.read.TextRead.{TextRead}
 use Rattle.steptext.specs.declared.read.TextRead.the-variants.{Says, TooLong, Unreadable}

@@ -17,12 +17,12 @@ use Rattle.rules.specs.Step.{Step}
 use Rattle.lines.proofs.Parted.{line-within, lines-from}
 use Rattle.numbers.specs.Digits.{isNumber, valueOf}
 use Rattle.steptext.specs.Read.{Reading, readSteps, says, tooLong, unreadable}
-use Rattle.steptext.specs.Says.{readAs, stepSaid, unread}
+use Rattle.says.specs.Says.{readAs, stepSaid, unread}
 use Rattle.lines.specs.Lines.{Text, lineAt, lines}
-use Rattle.steptext.specs.Text.{body, isEnded, isStepLine, parts, stepIn}
+use Rattle.says.specs.Text.{body, isEnded, isStepLine, parts, stepIn}
 use Rattle.steptext.specs.Told.{Gathers}
 use Rattle.steptext.specs.declared.read.TextRead.the-variants.{Says, TooLong, Unreadable}
-use Rattle.steptext.specs.declared.says.StepSaid.{StepSaid}
+use Rattle.says.specs.declared.StepSaid.{StepSaid}
 
 -- what the code's struct says of a line
 readable-by : (b : Bool) (s : List ℕ) (r : StepSaid) → r ≡ cond b (readAs s) unread → r .readable ≡ b

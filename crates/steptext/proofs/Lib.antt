@@ -1,4 +1,2 @@
 pub mod Gathered
-pub mod Parts
-pub mod Said
 pub mod Whole

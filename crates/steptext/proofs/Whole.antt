@@ -12,7 +12,7 @@ use Rattle.record.specs.Table.{flat, withNumbers}
 use Rattle.rules.specs.Run.{mostSteps, over, stepWidth}
 use Rattle.lines.proofs.Parted.{line-within, lines-from}
 use Rattle.numbers.specs.declared.Number.the-variants.{Is, Unreadable}
-use Rattle.steptext.proofs.Said.{read-by, unread-by}
+use Rattle.says.proofs.Said.{read-by, unread-by}
 use Rattle.steptext.specs.Read.{
   Reading,
   countOf,
@@ -24,9 +24,9 @@ use Rattle.steptext.specs.Read.{
   tooLong,
   unreadable,
 }
-use Rattle.steptext.specs.Says.{answersSaid}
+use Rattle.says.specs.Says.{answersSaid}
 use Rattle.lines.specs.Lines.{Text, lineAt, lines}
-use Rattle.steptext.specs.Text.{answersIn, isAnswersLine}
+use Rattle.says.specs.Text.{answersIn, isAnswersLine}
 use Rattle.steptext.specs.Told.{Gathers, Leaves, textCount}
 use Rattle.steptext.specs.declared.read.TextRead.{TextRead}
 use Rattle.steptext.specs.declared.read.TextRead.the-variants.{TooLong, Unreadable as UnreadableAt}

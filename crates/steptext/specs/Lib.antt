@@ -1,4 +1,2 @@
 pub mod Read
-pub mod Says
-pub mod Text
 pub mod Told

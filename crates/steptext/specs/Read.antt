@@ -8,7 +8,7 @@ use Rattle.record.specs.Table.{flat}
 use Rattle.rules.specs.Run.{mostSteps, over, stepWidth}
 use Rattle.rules.specs.Step.{Step}
 use Rattle.lines.specs.Lines.{Text, lines}
-use Rattle.steptext.specs.Text.{answersIn, isAnswersLine, isStepLine, stepIn}
+use Rattle.says.specs.Text.{answersIn, isAnswersLine, isStepLine, stepIn}
 
 pub data Reading : Type 0 where
   -- account answers, steps

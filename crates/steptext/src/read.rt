@@ -1,10 +1,10 @@
 // A text read into a step table. A refused text leaves the table as it was found: the steps are gathered beside it first.
-use crate::says::STEP_WIDTH;
-use crate::says::answers_said;
-use crate::says::step_said;
 use lines::reader::next_line;
 use numbers::Number;
 use record::table::copy_into;
+use says::STEP_WIDTH;
+use says::answers_said;
+use says::step_said;
 ghost use mathlib.Core.List.{[]};
 ghost use mathlib.Core.Path.{_≡_};
 ghost use Prim.Native.Nat.{_*_, _≤_};

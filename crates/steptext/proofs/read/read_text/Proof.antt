@@ -9,7 +9,7 @@ use Rattle.record.specs.Table.{withNumbers}
 use Rattle.rules.specs.Run.{stepWidth}
 use Rattle.steptext.proofs.Whole.{all-gathered, first-within, too-many-bytes, too-short, unread-first}
 use Rattle.steptext.specs.Read.{readSteps}
-use Rattle.steptext.specs.Says.{answersSaid}
+use Rattle.says.specs.Says.{answersSaid}
 use Rattle.lines.specs.Lines.{lines}
 use Rattle.steptext.specs.Told.{Gathers}
 use Rattle.steptext.proofs.read.read_text.Statement.{statement}

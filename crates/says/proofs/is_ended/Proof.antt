@@ -1,9 +1,9 @@
--- `steptext::says::is_ended` meets its promise.
+-- `says::is_ended` meets its promise.
 use borrow.Author.Needs.{needs}
 use mathlib.Core.Path.{refl}
-use Rattle.steptext.proofs.Said.{never-ended}
-use Rattle.steptext.proofs.says.is_ended.Statement.{statement}
-use Rattle.steptext.proofs.says.is_ended.Tie as tie
+use Rattle.says.proofs.Said.{never-ended}
+use Rattle.says.proofs.is_ended.Statement.{statement}
+use Rattle.says.proofs.is_ended.Tie as tie
 
 returns : tie.Need-returns
 returns c = never-ended (c .before .args .line .now) (c .if1 .taken)

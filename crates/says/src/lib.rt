@@ -5,8 +5,8 @@ use lines::bytes::next_at;
 use numbers::Number;
 use numbers::read_number;
 ghost use mathlib.Core.Path.{_≡_};
-ghost use Rattle.steptext.specs.Says.{answersSaid, numbersSaid, stepSaid, unread};
-ghost use Rattle.steptext.specs.Text.{isEnded};
+ghost use Rattle.says.specs.Says.{answersSaid, numbersSaid, stepSaid, unread};
+ghost use Rattle.says.specs.Text.{isEnded};
 
 pub const STEP_WIDTH: usize = 7;
 

@@ -12,16 +12,16 @@ use Rattle.messages.proofs.Chain.{last, skip}
 use Rattle.messages.specs.Layout.{filled}
 use Rattle.messages.specs.Tests.{all, every, same}
 use Rattle.rules.specs.Run.{stepWidth}
-use Rattle.steptext.proofs.Parts.{first-part, only-part}
+use Rattle.says.proofs.Parts.{first-part, only-part}
 use Rattle.lines.proofs.Parted.{before-within}
 use Rattle.numbers.proofs.Values.{fails}
 use Rattle.numbers.specs.Digits.{isNumber, valueOf}
 use Rattle.numbers.specs.Number.{numberIn}
 use Rattle.numbers.specs.declared.Number.{Number}
 use Rattle.numbers.specs.declared.Number.the-variants.{Is, Unreadable}
-use Rattle.steptext.specs.Says.{answersSaid, numbersSaid, readAs, stepSaid, unread}
+use Rattle.says.specs.Says.{answersSaid, numbersSaid, readAs, stepSaid, unread}
 use Rattle.lines.specs.Lines.{Text, before, onto, tab}
-use Rattle.steptext.specs.Text.{answersIn, answersStart, body, isAnswersLine, isEnded, isStepLine, letterA, parts, stepIn}
+use Rattle.says.specs.Text.{answersIn, answersStart, body, isAnswersLine, isEnded, isStepLine, letterA, parts, stepIn}
 
 pub never-ended : (l : Text) → length l < 1 → false ≡ isEnded l
 never-ended [] h = refl

@@ -11,8 +11,8 @@ use Rattle.lines.specs.Lines.{Text}
 use Rattle.numbers.specs.Digits.{isNumber, valueOf}
 use Rattle.numbers.specs.declared.Number.{Number}
 use Rattle.numbers.specs.declared.Number.the-variants.{Is, Unreadable}
-use Rattle.steptext.specs.Text.{answersIn, isAnswersLine, isStepLine, parts, stepIn}
-use Rattle.steptext.specs.declared.says.StepSaid.{StepSaid}
+use Rattle.says.specs.Text.{answersIn, isAnswersLine, isStepLine, parts, stepIn}
+use Rattle.says.specs.declared.StepSaid.{StepSaid}
 
 abbrev pub answersSaid : Text → Number
 answersSaid l = cond (isAnswersLine l) (Is (answersIn l)) Unreadable

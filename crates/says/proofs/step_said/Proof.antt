@@ -1,10 +1,10 @@
--- `steptext::says::step_said` meets its promise.
+-- `says::step_said` meets its promise.
 use borrow.Author.Needs.{needs}
 use mathlib.Core.Path.{_∙_}
 use Rattle.messages.proofs.Chain.{failed, held}
-use Rattle.steptext.proofs.Said.{said-ended, said-unended, some-byte}
-use Rattle.steptext.proofs.says.step_said.Statement.{statement}
-use Rattle.steptext.proofs.says.step_said.Tie as tie
+use Rattle.says.proofs.Said.{said-ended, said-unended, some-byte}
+use Rattle.says.proofs.step_said.Statement.{statement}
+use Rattle.says.proofs.step_said.Tie as tie
 
 returns : tie.Need-returns
 returns c =

@@ -1,12 +1,12 @@
--- `steptext::says::numbers_said` meets its promise.
+-- `says::numbers_said` meets its promise.
 use Prim.Native.Nat.{_-_, _≤_}
 use borrow.Author.Needs.{needs}
 use mathlib.Core.Path.{_∙_, sym}
 use native.Mathlib.Omega.{arith}
 use Rattle.rules.specs.Run.{stepWidth}
-use Rattle.steptext.proofs.Said.{Going, begin, said-all, said-no, said-too-much, turn}
-use Rattle.steptext.proofs.says.numbers_said.Statement.{statement}
-use Rattle.steptext.proofs.says.numbers_said.Tie as tie
+use Rattle.says.proofs.Said.{Going, begin, said-all, said-no, said-too-much, turn}
+use Rattle.says.proofs.numbers_said.Statement.{statement}
+use Rattle.says.proofs.numbers_said.Tie as tie
 
 abbrev Inv-loop : tie.InvT-loop
 Inv-loop body numbers₀ count₀ at₀ numbers count at = (count ≤ stepWidth) × Going body numbers count at

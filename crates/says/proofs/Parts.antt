@@ -7,7 +7,7 @@ use native.Mathlib.Omega.{arith}
 use lib.Dec.{eqb}
 use lib.ListN.{drop, length, take}
 use Rattle.lines.specs.Lines.{Text, before, onto, tab}
-use Rattle.steptext.specs.Text.{parts}
+use Rattle.says.specs.Text.{parts}
 
 more-by : (b : Bool) (x : ℕ) (xs : Text) → let n = before tab xs in let k = cond b 0 (suc n) in
     (n < length xs → parts xs ≡ take n xs ∷ parts (drop (suc n) xs))

@@ -1,12 +1,12 @@
--- `steptext::says::answers_said` meets its promise.
+-- `says::answers_said` meets its promise.
 use borrow.Author.Needs.{needs}
 use borrow.Author.Tests.{ne-eqb}
 use mathlib.Core.Path.{_∙_}
 use native.Mathlib.Omega.{arith}
 use Rattle.messages.proofs.Chain.{failed, held}
-use Rattle.steptext.proofs.Said.{answers-read, no-answers, other-start, some-byte, too-short}
-use Rattle.steptext.proofs.says.answers_said.Statement.{statement}
-use Rattle.steptext.proofs.says.answers_said.Tie as tie
+use Rattle.says.proofs.Said.{answers-read, no-answers, other-start, some-byte, too-short}
+use Rattle.says.proofs.answers_said.Statement.{statement}
+use Rattle.says.proofs.answers_said.Tie as tie
 
 returns : tie.Need-returns
 returns c =
