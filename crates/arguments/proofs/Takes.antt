@@ -13,7 +13,7 @@ use lib.Seq.{drop-cons, getD-drop}
 use Rattle.messages.proofs.Chain.{bounds}
 use Rattle.messages.specs.Layout.{AuthRequest, AuthResponse, Initiate, Invoice, Payment}
 use Rattle.record.proofs.Cut.{cut-at, part}
-use Rattle.record.proofs.Rows.{even-at}
+use Rattle.lawful.proofs.Rows.{even-at}
 use Rattle.rules.specs.Codes.{Argument, Item, Row, known, letter, row, rowOf, rows, starts, unused}
 use Rattle.rules.specs.Forged.{given, gives}
 use Rattle.rules.specs.Step.{argumentsOf, codeOf}

@@ -1,7 +1,7 @@
 -- The table of arguments as the code lends it: the letters of each row, and the rows of the codes one after the other.
 use Prim.Native.Nat.{ℕ}
 use mathlib.Core.List.{List, map}
-use Rattle.record.specs.Table.{flat}
+use Rattle.messages.specs.Layout.{flat}
 use Rattle.rules.specs.Codes.{Row, letter, rows}
 
 abbrev pub rowLetters : Row → List ℕ

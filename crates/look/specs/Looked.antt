@@ -7,7 +7,7 @@ use mathlib.Core.Path.{_≡_}
 use Rattle.messages.specs.Parts.{Message}
 use Rattle.messages.specs.Tests.{all}
 use Rattle.messages.specs.declared.parts.Mark.{Mark}
-use Rattle.record.specs.Lawful.{lawful}
+use Rattle.lawful.specs.Lawful.{lawful}
 use Rattle.record.specs.Table.{Record, messages}
 use Rattle.look.specs.declared.look.Found.{Found}
 use Rattle.look.specs.declared.look.Seen.{Seen}

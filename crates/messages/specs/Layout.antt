@@ -1,7 +1,7 @@
 -- The five kinds of message: where each part stands (a position counts from 0), and the message that given parts make.
 -- A position is the sum of the widths before it, so that a wider part moves all that follows.
 use Prim.Native.Nat.{ℕ, _+_, _-_}
-use mathlib.Core.List.{List, _∷_, _++_}
+use mathlib.Core.List.{List, [], _∷_, _++_}
 use lib.ListN.{getD, length, replicate}
 use Rattle.messages.specs.Parts.{Message, drawnWidth, hashedNumbers, markNumbers, markWidth, slipNumbers, slipWidth}
 use Rattle.messages.specs.Signed.{
@@ -84,6 +84,11 @@ kindOf m = getD m kind 0
 -- a list filled up to a width
 abbrev pub filled : {A : Type 0} → ℕ → A → List A → List A
 filled width x xs = xs ++ replicate (width - length xs) x
+
+-- pieces one after the other
+abbrev pub flat : {A : Type 0} → List (List A) → List A
+flat [] = []
+flat (x ∷ xs) = x ++ flat xs
 
 -- unused positions are 0
 abbrev pub laid : Kind → ℕ → ℕ → ℕ → List ℕ → Message

@@ -6,7 +6,8 @@ use lib.ListN.{drop, length, length-append, take}
 use lib.Seq.{drop-at, take-at}
 use native.Mathlib.Nat.{suc-mul, zero-mul}
 use native.Mathlib.Omega.{arith}
-use Rattle.record.specs.Table.{cut, flat}
+use Rattle.messages.specs.Layout.{flat}
+use Rattle.record.specs.Table.{cut}
 
 abbrev pub AllLong : ℕ → List (List ℕ) → Type 0
 AllLong w xs = (x : List ℕ) → List·Memᴰ x xs → length x ≡ w

@@ -8,7 +8,7 @@ use borrow.Author.Tests.{leb-true}
 use lib.Dec.{eqb, leb}
 use lib.ListN.{length}
 use Rattle.messages.proofs.Chain.{left-of, right-of}
-use Rattle.record.specs.Lawful.{lawful}
+use Rattle.lawful.specs.Lawful.{lawful}
 use Rattle.messages.specs.Layout.{messageWidth}
 use Rattle.record.specs.Table.{lawfulRecord, messages, mostRoom, roomOf, whole}
 use Rattle.messages.specs.Tests.{all}

@@ -1,3 +1,1 @@
-pub mod Lawful
-pub mod Lent
 pub mod Table

@@ -4,7 +4,7 @@ use mathlib.Core.Bool.{Bool, _&&_}
 use mathlib.Core.List.{List, [], _∷_, _++_}
 use lib.Dec.{eqb, leb}
 use lib.ListN.{drop, getD, length, take}
-use Rattle.record.specs.Lawful.{lawful}
+use Rattle.lawful.specs.Lawful.{lawful}
 use Rattle.messages.specs.Layout.{messageWidth}
 use Rattle.messages.specs.Parts.{Message}
 use Rattle.messages.specs.Tests.{all}
@@ -17,11 +17,6 @@ Record = List Message
 abbrev pub cut : ℕ → ℕ → List ℕ → List (List ℕ)
 cut w zero t = []
 cut w (suc n) t = take w t ∷ cut w n (drop w t)
-
--- pieces one after the other
-abbrev pub flat : {A : Type 0} → List (List A) → List A
-flat [] = []
-flat (x ∷ xs) = x ++ flat xs
 
 abbrev pub messages : ℕ → List ℕ → Record
 messages n t = cut messageWidth n t

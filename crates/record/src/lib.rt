@@ -1,3 +1,2 @@
-// The record: which messages are lawful, and the flat table of 16-bit numbers, 48 to a message, in which they stand.
-pub mod lawful;
+// The record: the flat table of 16-bit numbers, 48 to a message, in which messages stand.
 pub mod table;

@@ -1,7 +1,7 @@
 // The record: a flat table of numbers, 48 to a message, and how many messages stand in it.
-use crate::lawful::POSITIONS;
-use crate::lawful::bounds;
-use crate::lawful::is_lawful_by;
+use lawful::POSITIONS;
+use lawful::bounds;
+use lawful::is_lawful_by;
 use messages::layout::MESSAGE_WIDTH;
 use messages::parts::Place;
 ghost use mathlib.Core.Path.{_≡_};
@@ -9,8 +9,8 @@ ghost use Prim.Native.Nat.{_*_, _+_, _≤_};
 ghost use lib.ListN.{length};
 ghost use Rattle.messages.specs.Layout.{messageWidth};
 ghost use Rattle.messages.specs.Tests.{all};
-ghost use Rattle.record.specs.Lawful.{lawful};
-ghost use Rattle.record.specs.Lent.{leastNumbers, mostNumbers};
+ghost use Rattle.lawful.specs.Lawful.{lawful};
+ghost use Rattle.lawful.specs.Lent.{leastNumbers, mostNumbers};
 ghost use Rattle.record.specs.Table.{lawfulRecord, messageIn, messages, roomOf, whole, withMessage, withNumbers};
 
 pub const MOST_ROOM: usize = 512;

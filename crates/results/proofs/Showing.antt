@@ -9,8 +9,8 @@ use native.Mathlib.Omega.{arith}
 use lib.Dec.{eqb, leb, ltb}
 use lib.ListN.{drop, length, length-replicate, replicate, take}
 use lib.Seq.{length-take-le, take-at}
-use Rattle.record.specs.Table.{cut, flat, mostRoom, roomOf, whole}
-use Rattle.messages.specs.Layout.{messageWidth}
+use Rattle.record.specs.Table.{cut, mostRoom, roomOf, whole}
+use Rattle.messages.specs.Layout.{flat, messageWidth}
 use Rattle.record.proofs.Flat.{AllLong, cut-flat, flat-length}
 use Rattle.rules.specs.Run.{mostSteps, over, played, stepCount, stepWidth, stepsOf}
 use Rattle.rules.specs.Step.{Step}

@@ -3,7 +3,8 @@ use Prim.Native.Nat.{ℕ, _≤_}
 use mathlib.Core.List.{List, []}
 use mathlib.Core.Path.{_≡_}
 use lib.ListN.{length, take}
-use Rattle.record.specs.Table.{flat, mostRoom}
+use Rattle.messages.specs.Layout.{flat}
+use Rattle.record.specs.Table.{mostRoom}
 use Rattle.rules.specs.Run.{over, played}
 use Rattle.steptext.specs.Read.{Reading, says, tooLong, unreadable}
 use Rattle.results.specs.Output.{output, reading}

@@ -11,7 +11,7 @@ use lib.ListN.{length, length-append}
 use native.Mathlib.Omega.{arith}
 use Rattle.messages.proofs.Chain.{inside, left-of, right-of}
 use Rattle.record.proofs.Cut.{length-cut}
-use Rattle.record.specs.Lawful.{Range, accounts, buyers, codes, draws, fits, lawful, markRanges, sellers, slipRanges, within}
+use Rattle.lawful.specs.Lawful.{Range, accounts, buyers, codes, draws, fits, lawful, markRanges, sellers, slipRanges, within}
 use Rattle.messages.specs.Layout.{AuthRequest, AuthResponse, Initiate, Invoice, Kind, Payment, body, destination, invoiceSigned, messageWidth, paymentSigned, replySigned, requestBuyerSigned, requestSigned, requestSlip, source}
 use Rattle.messages.specs.Parts.{Message, accountOf, buyerAt, drawnAt, drawnNumbers, drawnWidth, hashedAt, hashedWidth, markAt, markNumbers, markWidth, sellerAt, slipAt, slipNumbers, slipWidth}
 use Rattle.messages.specs.Signed.{buyerSignedAt, buyerSignedWidth, invoiceSignedWidth, replySignedWidth, requestSignedWidth}

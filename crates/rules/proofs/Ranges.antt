@@ -7,7 +7,7 @@ use borrow.Author.Tests.{eqb-true}
 use lib.Dec.{eqb}
 use lib.ListN.{getD, length, replicate}
 use Rattle.messages.proofs.Chain.{left-of, right-of}
-use Rattle.record.specs.Lawful.{Range, buyers, codes, fits, gateways, hashedRanges, kindRanges, kinds, lawful, markRanges, sellers, slipRanges, unused, within}
+use Rattle.lawful.specs.Lawful.{Range, buyers, codes, fits, gateways, hashedRanges, kindRanges, kinds, lawful, markRanges, sellers, slipRanges, unused, within}
 use Rattle.messages.specs.Layout.{Kind, aPayment, anAuthRequest, anAuthResponse, anInitiate, anInvoice, filled, kindNumber, kindOf, messageWidth}
 use Rattle.messages.specs.Parts.{Message, hashedNumbers, markNumbers, slipNumbers}
 use Rattle.messages.specs.Signed.{buyerSignedNumbers, invoiceSignedNumbers, replySignedNumbers, requestSignedNumbers}

@@ -10,9 +10,9 @@ use native.Mathlib.Omega.{arith}
 use Rattle.messages.proofs.Chain.{left-of}
 use Rattle.record.proofs.Cut.{cut-append, length-cut}
 use Rattle.record.proofs.Flat.{AllLong, cut-flat, flat-length}
-use Rattle.messages.specs.Layout.{messageWidth}
+use Rattle.messages.specs.Layout.{flat, messageWidth}
 use Rattle.messages.specs.Parts.{Message}
-use Rattle.record.specs.Table.{Record, cut, flat, messages, mostRoom, roomOf, whole}
+use Rattle.record.specs.Table.{Record, cut, messages, mostRoom, roomOf, whole}
 use Rattle.rules.proofs.Gates.{Open, all-open, passes}
 use Rattle.rules.proofs.Laid.{full-length}
 use Rattle.rules.proofs.LawfulReached.{reached-room, step-as-run, table-lawful}

@@ -8,7 +8,7 @@ use lib.ListN.{List·getD-append, length, length-append}
 use lib.Seq.{getD-at, take-at}
 use native.Mathlib.Omega.{arith}
 use Rattle.messages.proofs.Chain.{bounds, inside}
-use Rattle.record.specs.Lawful.{buyers, sellers, within}
+use Rattle.lawful.specs.Lawful.{buyers, sellers, within}
 use Rattle.messages.specs.Layout.{AuthRequest, Initiate, Invoice, Payment}
 use Rattle.messages.specs.Parts.{Message}
 use Rattle.record.specs.Table.{Record, messageAt}

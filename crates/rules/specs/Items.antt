@@ -5,7 +5,7 @@ use mathlib.Core.Bool.{Bool, true, _&&_, _||_, cond}
 use mathlib.Core.List.{List, [], _∷_}
 use lib.Dec.{eqb, leb}
 use Rattle.messages.specs.Tests.{between}
-use Rattle.record.specs.Lawful.{buyers, codes, sellers, within}
+use Rattle.lawful.specs.Lawful.{buyers, codes, sellers, within}
 use Rattle.messages.specs.Layout.{
   AuthRequest,
   AuthResponse,

@@ -5,7 +5,7 @@ use mathlib.Core.Bool.{true}
 use mathlib.Core.List.{List, [], _∷_, _++_}
 use mathlib.Core.Path.{_≡_}
 use lib.ListN.{getD, length}
-use Rattle.record.specs.Lawful.{buyers, sellers, within}
+use Rattle.lawful.specs.Lawful.{buyers, sellers, within}
 use Rattle.record.specs.Table.{Record, lawfulRecord, messages, roomOf}
 use Rattle.messages.specs.declared.parts.Buyer.{Buyer}
 use Rattle.messages.specs.declared.parts.Place.{Place}

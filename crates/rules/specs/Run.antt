@@ -4,7 +4,8 @@ use mathlib.Core.Bool.{Bool, _&&_}
 use mathlib.Core.List.{List, [], _∷_, _++_}
 use lib.Dec.{eqb, leb}
 use lib.ListN.{drop, length}
-use Rattle.record.specs.Table.{Record, cut, flat, roomOf, whole}
+use Rattle.messages.specs.Layout.{flat}
+use Rattle.record.specs.Table.{Record, cut, roomOf, whole}
 use Rattle.rules.specs.Gates.{Gate, _unless_, through}
 use Rattle.rules.specs.Step.{Step, judge, numberOf, recordAfter}
 

@@ -6,7 +6,7 @@ use mathlib.Core.Bool.{true}
 use mathlib.Core.List.{List, [], _++_}
 use mathlib.Core.Path.{_≡_}
 use lib.ListN.{length, take}
-use Rattle.record.specs.Lawful.{buyers, lawful, sellers, within}
+use Rattle.lawful.specs.Lawful.{buyers, lawful, sellers, within}
 use Rattle.record.specs.Table.{Record, lawfulRecord, messages, mostRoom, roomOf}
 use Rattle.messages.specs.Tests.{all}
 use Rattle.messages.specs.declared.parts.Place.{Place}

@@ -9,10 +9,10 @@ use native.Mathlib.Omega.{arith}
 use lib.ListN.{drop, drop-of-length-le, getD, length, length-append, length-drop, length-set, set, take, take-append-drop}
 use lib.Seq.{drop-at, drop-cons, drop-drop, getD-drop, length-take-le, paste, paste-suc, paste-zero, take-add, take-all}
 use Rattle.record.proofs.Cut.{cut-at, length-cut, messages-with}
-use Rattle.messages.specs.Layout.{messageWidth}
+use Rattle.messages.specs.Layout.{flat, messageWidth}
 use Rattle.messages.specs.Parts.{Message}
 use lib.Dec.{eqb, leb}
-use Rattle.record.specs.Table.{Record, flat, messages, mostRoom, roomOf, whole, withMessage}
+use Rattle.record.specs.Table.{Record, messages, mostRoom, roomOf, whole, withMessage}
 use Rattle.rules.proofs.Accepted.{is-accepted}
 use Rattle.rules.specs.Run.{over, played, stepCount, stepWidth, stepsOf, verdicts}
 use Rattle.rules.specs.Step.{Outcome, Step, accepted, judge, numberOf, recordAfter, refused}

@@ -5,7 +5,8 @@ use mathlib.Core.Path.{_≡_}
 use Prim.Native.Nat.{ℕ, _+_, _≤_}
 use lib.Dec.{eqb}
 use lib.ListN.{length}
-use Rattle.record.specs.Table.{flat, mostRoom, roomOf}
+use Rattle.messages.specs.Layout.{flat}
+use Rattle.record.specs.Table.{mostRoom, roomOf}
 use Rattle.rules.specs.Run.{Ran as RanOf, over, played, stepsOf, verdicts}
 use Rattle.rules.specs.Step.{Outcome, accepted, numberOf, refused, tableAfter}
 use Rattle.runs.specs.declared.run.Ran.{Ran}

@@ -9,8 +9,8 @@ use lib.Dec.{leb}
 use lib.ListN.{drop, drop-of-length-le, length, length-append, length-map, length-replicate, replicate, take}
 use lib.Seq.{length-take-le, take-at}
 use Rattle.messages.proofs.Chain.{left-of, right-of}
-use Rattle.messages.specs.Layout.{filled}
-use Rattle.record.specs.Table.{flat, withNumbers}
+use Rattle.messages.specs.Layout.{filled, flat}
+use Rattle.record.specs.Table.{withNumbers}
 use Rattle.messages.specs.Tests.{all}
 use Rattle.rules.specs.Run.{mostSteps, stepWidth}
 use Rattle.rules.specs.Step.{Step}

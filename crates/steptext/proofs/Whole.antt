@@ -8,7 +8,8 @@ use native.Mathlib.Nat.{zero-add}
 use native.Mathlib.Omega.{arith}
 use lib.Dec.{leb}
 use lib.ListN.{drop, length, take}
-use Rattle.record.specs.Table.{flat, withNumbers}
+use Rattle.messages.specs.Layout.{flat}
+use Rattle.record.specs.Table.{withNumbers}
 use Rattle.rules.specs.Run.{mostSteps, over, stepWidth}
 use Rattle.lines.proofs.Parted.{line-within, lines-from}
 use Rattle.numbers.specs.declared.Number.the-variants.{Is, Unreadable}

@@ -4,7 +4,7 @@ use mathlib.Core.Bool.{_&&_, cond}
 use mathlib.Core.List.{List, [], _∷_, _++_}
 use lib.Dec.{leb, ltb}
 use lib.ListN.{length}
-use Rattle.record.specs.Table.{flat}
+use Rattle.messages.specs.Layout.{flat}
 use Rattle.rules.specs.Run.{mostSteps, over, stepWidth}
 use Rattle.rules.specs.Step.{Step}
 use Rattle.lines.specs.Lines.{Text, lines}

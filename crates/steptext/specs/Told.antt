@@ -3,7 +3,7 @@ use mathlib.Core.List.{List}
 use mathlib.Core.Path.{_≡_}
 use Prim.Native.Nat.{ℕ, _*_, _+_, _≤_}
 use lib.ListN.{take}
-use Rattle.record.specs.Table.{flat}
+use Rattle.messages.specs.Layout.{flat}
 use Rattle.rules.specs.Run.{mostSteps, stepWidth}
 use Rattle.steptext.specs.Read.{Reading, answersOf, countOf, lineOf, numberOf, stepsIn, tableAfter}
 use Rattle.steptext.specs.declared.read.TextRead.{TextRead}

@@ -7,7 +7,7 @@ use native.Mathlib.Omega.{arith}
 use Rattle.messages.proofs.Chain.{goes-on, leaves}
 use Rattle.messages.specs.Tests.{all}
 use Rattle.record.proofs.Cut.{test-next, test-over}
-use Rattle.record.specs.Lawful.{lawful}
+use Rattle.lawful.specs.Lawful.{lawful}
 use Rattle.record.specs.Table.{messages}
 use Rattle.record.proofs.table.are_lawful.Statement.{statement}
 use Rattle.record.proofs.table.are_lawful.Tie as tie

@@ -1,4 +1,4 @@
--- `record::lawful::is_lawful_by` meets its promise.
+-- `lawful::is_lawful_by` meets its promise.
 use Prim.Native.Nat.{_-_, _<_, suc, zero, ℕ}
 use borrow.Author.Needs.{needs}
 use borrow.Author.Tests.{eq-eqb, ne-eqb}
@@ -8,10 +8,10 @@ use mathlib.Core.List.{List, [], _∷_}
 use mathlib.Core.Path.{_∙_, _≡_, ap, refl, sym}
 use native.Mathlib.Omega.{arith}
 use Rattle.messages.proofs.Chain.{skip, stop}
-use Rattle.record.specs.Lawful.{Range, fits, kindRanges}
+use Rattle.lawful.specs.Lawful.{Range, fits, kindRanges}
 use Rattle.messages.specs.Layout.{kindOf, messageWidth}
-use Rattle.record.proofs.lawful.is_lawful_by.Statement.{statement}
-use Rattle.record.proofs.lawful.is_lawful_by.Tie as tie
+use Rattle.lawful.proofs.is_lawful_by.Statement.{statement}
+use Rattle.lawful.proofs.is_lawful_by.Tie as tie
 
 below : (m : List ℕ) → length m ≡ messageWidth → kindOf m < 1 → false ≡ fits (getD kindRanges (kindOf m - 1) []) m
 below [] e h = absurd (omega arith)

@@ -5,14 +5,14 @@ use mathlib.Core.Path.{_≡_, _∙_, refl, sym, ap, ap₂, subst}
 use Prim.Native.Nat.{ℕ, zero, suc, _+_, _*_, _<_}
 use borrow.Author.Tests.{eqb-true}
 use lib.Dec.{eqb}
+use Rattle.messages.specs.Layout.{flat}
 use Rattle.messages.specs.Tests.{all}
 use Rattle.messages.proofs.Chain.{left-of, right-of}
 use native.Mathlib.Nat.{zero-add, add-assoc, suc-mul, zero-mul, not-suc-le-zero, le-of-suc-le-suc, add-comm}
 use native.Mathlib.Numerals.{add-one}
 use lib.ListN.{List·getD-append, List·getD-map, drop, getD, length}
 use lib.Seq.{drop-cons, getD-append-add}
-use Rattle.record.specs.Lawful.{Range, fits, unused, within}
-use Rattle.record.specs.Table.{flat}
+use Rattle.lawful.specs.Lawful.{Range, fits, unused, within}
 
 -- every row has w entries
 abbrev pub even : {A : Type 0} → ℕ → List (List A) → Bool

@@ -7,8 +7,8 @@ ghost use mathlib.Core.Path.{_≡_};
 ghost use mathlib.Core.List.{[]};
 ghost use Prim.Native.Nat.{_<_};
 ghost use lib.ListN.{getD, length};
-ghost use Rattle.record.specs.Lawful.{fits, kindRanges, lawful, rangeLettered, spanOf};
-ghost use Rattle.record.specs.Lent.{leastNumbers, mostNumbers, positions};
+ghost use Rattle.lawful.specs.Lawful.{fits, kindRanges, lawful, rangeLettered, spanOf};
+ghost use Rattle.lawful.specs.Lent.{leastNumbers, mostNumbers, positions};
 ghost use Rattle.messages.specs.Layout.{messageWidth};
 
 // The positions of the five kinds.

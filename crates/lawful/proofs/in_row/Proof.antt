@@ -1,4 +1,4 @@
--- `record::lawful::in_row` meets its promise. The loop's invariant: what is asked so far and what is left of the row and of the message
+-- `lawful::in_row` meets its promise. The loop's invariant: what is asked so far and what is left of the row and of the message
 -- are together what is asked of the whole.
 use Prim.Native.Nat.{_*_, _+_, _-_, _<_, _≤_, ℕ}
 use lib.ListN.{drop, drop-of-length-le, getD, length}
@@ -10,12 +10,12 @@ use native.Mathlib.Omega.{arith}
 use lib.Dec.{leb}
 use Rattle.messages.specs.Layout.{messageWidth}
 use Rattle.messages.specs.Tests.{between}
-use Rattle.record.proofs.Lent.{long, of-row, rows-even}
-use Rattle.record.proofs.Rows.{even-at, fits-from}
-use Rattle.record.specs.Lawful.{Range, fits, kindRanges}
-use Rattle.record.specs.Lent.{leastNumbers, mostNumbers}
-use Rattle.record.proofs.lawful.in_row.Statement.{statement}
-use Rattle.record.proofs.lawful.in_row.Tie as tie
+use Rattle.lawful.proofs.Lent.{long, of-row, rows-even}
+use Rattle.lawful.proofs.Rows.{even-at, fits-from}
+use Rattle.lawful.specs.Lawful.{Range, fits, kindRanges}
+use Rattle.lawful.specs.Lent.{leastNumbers, mostNumbers}
+use Rattle.lawful.proofs.in_row.Statement.{statement}
+use Rattle.lawful.proofs.in_row.Tie as tie
 
 row-of : ℕ → List Range
 row-of k = getD kindRanges k []

@@ -5,12 +5,11 @@ use mathlib.Core.Path.{_≡_, _∙_, refl, sym, ap}
 use Prim.Native.Nat.{ℕ, _+_, _*_, _<_}
 use native.Mathlib.Omega.{arith}
 use lib.ListN.{getD, length}
-use Rattle.messages.specs.Layout.{messageWidth}
-use Rattle.record.proofs.Rows.{even, number-at, numbered}
-use Rattle.record.specs.Lawful.{Range, accounts, buyers, codes, draws, gateways, kindRanges, kinds, letter, rangeLettered, sellers, spanOf, unused}
-use Rattle.record.specs.Lent.{ofSpans, positions}
-use Rattle.record.specs.Table.{flat}
-use Rattle.record.specs.declared.lawful.Span.{Span}
+use Rattle.messages.specs.Layout.{flat, messageWidth}
+use Rattle.lawful.proofs.Rows.{even, number-at, numbered}
+use Rattle.lawful.specs.Lawful.{Range, accounts, buyers, codes, draws, gateways, kindRanges, kinds, letter, rangeLettered, sellers, spanOf, unused}
+use Rattle.lawful.specs.Lent.{ofSpans, positions}
+use Rattle.lawful.specs.declared.Span.{Span}
 
 pub long : (side : Span → ℕ) {l : List ℕ} → l ≡ ofSpans side → length l ≡ positions
 unfolding ofSpans

@@ -1,4 +1,4 @@
--- `record::lawful::bounds` meets its promise. The loop's invariant: up to i both tables are as they are to be.
+-- `lawful::bounds` meets its promise. The loop's invariant: up to i both tables are as they are to be.
 use Prim.Native.Nat.{_+_, _-_, _<_, _≤_, ℕ}
 use borrow.Author.Needs.{needs}
 use lib.ListN.{getD, length, length-set, set, take}
@@ -7,11 +7,11 @@ use mathlib.Core.List.{List, [], _++_, _∷_}
 use mathlib.Core.Path.{_∙_, _≡_, ap, ap₂, refl, sym}
 use native.Mathlib.Numerals.{add-one}
 use native.Mathlib.Omega.{arith}
-use Rattle.record.proofs.Lent.{long, of-letter}
-use Rattle.record.specs.Lent.{leastNumbers, mostNumbers, ofSpans, positions}
-use Rattle.record.specs.declared.lawful.Span.{Span}
-use Rattle.record.proofs.lawful.bounds.Statement.{statement}
-use Rattle.record.proofs.lawful.bounds.Tie as tie
+use Rattle.lawful.proofs.Lent.{long, of-letter}
+use Rattle.lawful.specs.Lent.{leastNumbers, mostNumbers, ofSpans, positions}
+use Rattle.lawful.specs.declared.Span.{Span}
+use Rattle.lawful.proofs.bounds.Statement.{statement}
+use Rattle.lawful.proofs.bounds.Tie as tie
 
 -- one number more is as it is to be
 turn : (side : Span → ℕ) (l : List ℕ) (i x : ℕ) → take i l ≡ take i (ofSpans side) → i < length l → i < positions → x ≡ getD (ofSpans side) i 0

@@ -7,7 +7,7 @@ use lib.ListN.{getD, length}
 use Rattle.messages.specs.Layout.{filled, kindOf, messageWidth}
 use Rattle.messages.specs.Parts.{Message}
 use Rattle.messages.specs.Tests.{between}
-use Rattle.record.specs.declared.lawful.Span.{Span}
+use Rattle.lawful.specs.declared.Span.{Span}
 
 -- what a position may hold: nothing (it is unused), a kind, a buyer, a seller, a gateway, an account, a draw, a response code
 pub data Range : Type 0 where

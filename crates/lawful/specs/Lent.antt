@@ -1,10 +1,9 @@
 -- The table of ranges as it is lent: the least and the most number of each position, the rows of the kinds one after the other.
 use Prim.Native.Nat.{ℕ, _*_}
 use mathlib.Core.List.{List, map}
-use Rattle.messages.specs.Layout.{messageWidth}
-use Rattle.record.specs.Lawful.{Range, kindRanges, spanOf}
-use Rattle.record.specs.Table.{flat}
-use Rattle.record.specs.declared.lawful.Span.{Span}
+use Rattle.messages.specs.Layout.{flat, messageWidth}
+use Rattle.lawful.specs.Lawful.{Range, kindRanges, spanOf}
+use Rattle.lawful.specs.declared.Span.{Span}
 
 abbrev pub positions : ℕ
 positions = 5 * messageWidth

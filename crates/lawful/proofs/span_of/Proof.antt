@@ -1,8 +1,8 @@
--- `record::lawful::span_of` meets its promise.
+-- `lawful::span_of` meets its promise.
 use borrow.Author.Tests.{ne-eqb}
 use mathlib.Core.Path.{refl}
-use Rattle.record.proofs.lawful.span_of.Statement.{statement}
-use Rattle.record.proofs.lawful.span_of.Tie as tie
+use Rattle.lawful.proofs.span_of.Statement.{statement}
+use Rattle.lawful.proofs.span_of.Tie as tie
 
 returns-8 : tie.Need-returns-8
 returns-8 c =
