@@ -16,7 +16,7 @@ use Rattle.runs.specs.Ran.{Plays}
 use Rattle.results.proofs.Told.{rows-told}
 use Rattle.printing.specs.Printed.{linesOf, stepLine}
 use Rattle.results.specs.Output.{results}
-use Rattle.results.specs.Rows.{replyLines, stepLines}
+use Rattle.rows.specs.Rows.{replyLines, stepLines}
 
 -- the messages of a whole table are within it, and no more than it may have
 pub in-table : (t : List ℕ) (n : ℕ) → whole t ≡ true → n ≤ roomOf t → (n * messageWidth ≤ length t) × (n ≤ mostRoom)

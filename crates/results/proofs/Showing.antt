@@ -21,8 +21,9 @@ use Rattle.says.specs.Text.{answersIn, isAnswersLine, isStepLine, stepIn}
 use Rattle.steptext.specs.Told.{Leaves, Tells}
 use Rattle.steptext.specs.declared.read.TextRead.{TextRead}
 use Rattle.steptext.specs.declared.read.TextRead.the-variants.{Says, TooLong, Unreadable}
-use Rattle.results.specs.Output.{mostPrinted, output, reading, results, resultsOf}
+use Rattle.results.specs.Output.{output, reading, results, resultsOf}
 use Rattle.printing.specs.Put.{Put}
+use Rattle.rows.specs.Rows.{mostPrinted}
 use Rattle.results.specs.Shown.{Shows, recordLeft}
 
 -- the program's step table before a text is read into it, and the answer of the reader by its case

@@ -1,3 +1,2 @@
 pub mod Output
-pub mod Rows
 pub mod Shown

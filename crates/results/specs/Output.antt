@@ -1,10 +1,8 @@
 -- What the program prints for a text: a line for each step and a line for each house reply, or one line if the text is refused.
-use Prim.Native.Nat.{ℕ, _*_, _+_}
+use Prim.Native.Nat.{ℕ, _*_}
 use mathlib.Core.List.{List, [], _++_}
 use Rattle.lines.specs.Lines.{Text}
 use Rattle.printing.specs.Printed.{linesOf, refusedLine, replyLine, stepLine}
-use Rattle.printing.specs.Widths.{replyWidest, stepWidest}
-use Rattle.record.specs.Table.{mostRoom}
 use Rattle.rules.specs.Run.{mostSteps, played, stepWidth}
 use Rattle.rules.specs.Said.{replyRows, stepRows}
 use Rattle.rules.specs.Step.{Step}
@@ -29,7 +27,3 @@ reading text = readText (mostSteps * stepWidth) text
 -- of a text, with room for so many messages
 unfoldable pub output : ℕ → Text → Text
 output room text = resultsOf room (reading text)
-
--- the most bytes of it, were every message a house reply and every number of 5 digits
-abbrev pub mostPrinted : ℕ
-mostPrinted = mostSteps * stepWidest + mostRoom * replyWidest

@@ -1,10 +1,10 @@
 // A text played on a lent record, with its results in lent bytes: all that the program does between reading and writing.
-use crate::rows::put_results;
 use messages::layout::MESSAGE_WIDTH;
 use printing::printed::REPLY_WIDEST;
 use printing::printed::STEP_WIDEST;
 use printing::printed::put_refused_line;
 use record::table::MOST_ROOM;
+use rows::put_results;
 use runs::run::MOST_STEPS;
 use runs::run::STEP_WIDTH;
 use runs::run::play;
@@ -17,9 +17,10 @@ ghost use Prim.Native.Nat.{_≤_};
 ghost use lib.ListN.{length};
 ghost use Rattle.messages.specs.Layout.{flat};
 ghost use Rattle.record.specs.Table.{roomOf, whole};
-ghost use Rattle.results.specs.Output.{mostPrinted, results};
+ghost use Rattle.results.specs.Output.{results};
 ghost use Rattle.printing.specs.Put.{Put};
 ghost use Rattle.results.specs.Shown.{Shows};
+ghost use Rattle.rows.specs.Rows.{mostPrinted};
 ghost use Rattle.rules.specs.Run.{mostSteps, over, played, stepCount, stepsOf};
 
 // The numbers of a record with the most room, and the most bytes that its results take.

@@ -5,7 +5,7 @@ use mathlib.Core.Path.{sym, subst}
 use native.Mathlib.Omega.{arith}
 use Rattle.results.proofs.Playing.{in-table, printed}
 use Rattle.printing.specs.Put.{Put}
-use Rattle.results.specs.Output.{mostPrinted}
+use Rattle.rows.specs.Rows.{mostPrinted}
 use Rattle.rules.specs.Run.{stepCount}
 use Rattle.lines.specs.Lines.{Text}
 use Rattle.results.proofs.play.play_steps.Statement.{statement}

@@ -1,14 +1,14 @@
--- `results::rows::put_steps` meets its promise.
+-- `rows::put_steps` meets its promise.
 use Prim.Native.Nat.{_*_, _+_, _-_, _≤_}
 use lib.ListN.{drop, length, getD}
 use native.Mathlib.Omega.{arith}
-use Rattle.results.proofs.Told.{count-grows, steps-from, steps-over}
+use Rattle.rows.proofs.Lines.{count-grows, steps-from, steps-over}
 use Rattle.printing.proofs.Writing.{Going, begin, bounded, over, turn}
 use Rattle.printing.specs.Printed.{linesOf, stepLine}
-use Rattle.results.specs.Rows.{rowsBy, stepLines}
+use Rattle.rows.specs.Rows.{rowsBy, stepLines}
 use Rattle.printing.specs.Widths.{stepWidest}
-use Rattle.results.proofs.rows.put_steps.Statement.{statement}
-use Rattle.results.proofs.rows.put_steps.Tie as tie
+use Rattle.rows.proofs.put_steps.Statement.{statement}
+use Rattle.rows.proofs.put_steps.Tie as tie
 
 abbrev Inv-loop : tie.InvT-loop
 Inv-loop out₀ numbers at₀ n₀ i₀ out at n i =

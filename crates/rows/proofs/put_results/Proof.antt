@@ -1,10 +1,10 @@
--- `results::rows::put_results` meets its promise.
+-- `rows::put_results` meets its promise.
 use borrow.Author.Needs.{needs}
 use native.Mathlib.Omega.{arith}
 use Rattle.printing.proofs.Writing.{bounded, then}
-use Rattle.results.specs.Output.{mostPrinted}
-use Rattle.results.proofs.rows.put_results.Statement.{statement}
-use Rattle.results.proofs.rows.put_results.Tie as tie
+use Rattle.rows.specs.Rows.{mostPrinted}
+use Rattle.rows.proofs.put_results.Statement.{statement}
+use Rattle.rows.proofs.put_results.Tie as tie
 
 returns : tie.Need-returns
 returns c =

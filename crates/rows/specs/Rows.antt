@@ -1,14 +1,16 @@
 -- The lines of a list that was played, as the code comes by them: of the steps by their numbers alone, of a reply by its place in the table.
-use Prim.Native.Nat.{ℕ, _+_}
+use Prim.Native.Nat.{ℕ, _*_, _+_}
 use mathlib.Core.Bool.{cond}
 use mathlib.Core.List.{List, [], _∷_}
 use lib.Dec.{eqb}
 use Rattle.messages.specs.Parts.{Message}
-use Rattle.record.specs.Table.{Record, messageIn, messages}
+use Rattle.record.specs.Table.{Record, messageIn, messages, mostRoom}
 use Rattle.rules.specs.Report.{houseReply, replyMark}
+use Rattle.rules.specs.Run.{mostSteps}
 use Rattle.rules.specs.Said.{replyRow, replyRows}
 use Rattle.lines.specs.Lines.{Text}
 use Rattle.printing.specs.Printed.{linesOf, replyLine, stepLine}
+use Rattle.printing.specs.Widths.{replyWidest, stepWidest}
 
 -- a step of this number with n messages before it: its place, and how many messages there are after it
 abbrev pub placeBy : ℕ → ℕ → ℕ
@@ -34,3 +36,7 @@ lineAfter t p = lineIf (messages p t) p (messageIn t (record { 0 = p + 1 }))
 
 abbrev pub replyLines : Record → Text
 replyLines R = linesOf replyLine (replyRows R 0 R)
+
+-- the most bytes of them all, were every message a house reply and every number of 5 digits
+abbrev pub mostPrinted : ℕ
+mostPrinted = mostSteps * stepWidest + mostRoom * replyWidest

@@ -1,10 +1,10 @@
--- `results::rows::place_of` meets its promise.
+-- `rows::place_of` meets its promise.
 use Prim.Native.Nat.{_+_}
 use borrow.Author.Needs.{needs}
 use mathlib.Core.Path.{sym}
-use Rattle.results.proofs.Told.{is-0, not-0}
-use Rattle.results.proofs.rows.place_of.Statement.{statement}
-use Rattle.results.proofs.rows.place_of.Tie as tie
+use Rattle.rows.proofs.Lines.{is-0, not-0}
+use Rattle.rows.proofs.place_of.Statement.{statement}
+use Rattle.rows.proofs.place_of.Tie as tie
 
 returns : tie.Need-returns
 returns c = (sym (not-0 (c .before .args .n + 1) 0 (c .if1 .taken)), sym (not-0 (c .before .args .n + 1) (c .before .args .n) (c .if1 .taken)))

@@ -1,14 +1,14 @@
--- `results::rows::put_reply` meets its promise.
+-- `rows::put_reply` meets its promise.
 use borrow.Author.Needs.{needs}
 use mathlib.Core.Path.{subst}
 use Rattle.messages.proofs.Chain.{failed, held}
-use Rattle.results.proofs.Told.{its-line, no-line}
+use Rattle.rows.proofs.Lines.{its-line, no-line}
 use Rattle.printing.proofs.Writing.{none}
 use Rattle.printing.specs.Put.{Put}
 use Rattle.printing.specs.Widths.{replyWidest}
 use Rattle.lines.specs.Lines.{Text}
-use Rattle.results.proofs.rows.put_reply.Statement.{statement}
-use Rattle.results.proofs.rows.put_reply.Tie as tie
+use Rattle.rows.proofs.put_reply.Statement.{statement}
+use Rattle.rows.proofs.put_reply.Tie as tie
 
 returns : tie.Need-returns
 returns c =

@@ -14,8 +14,7 @@ ghost use lib.ListN.{length};
 ghost use Rattle.messages.specs.Layout.{messageWidth};
 ghost use Rattle.record.specs.Table.{messages, mostRoom};
 ghost use Rattle.printing.specs.Put.{Put};
-ghost use Rattle.results.specs.Output.{mostPrinted};
-ghost use Rattle.results.specs.Rows.{countBy, lineAfter, placeBy, replyLines, stepLines};
+ghost use Rattle.rows.specs.Rows.{countBy, lineAfter, mostPrinted, placeBy, replyLines, stepLines};
 ghost use Rattle.printing.specs.Widths.{replyWidest, stepWidest};
 ghost use Rattle.rules.specs.Run.{mostSteps};
 

@@ -1,16 +1,16 @@
--- `results::rows::put_replies` meets its promise.
+-- `rows::put_replies` meets its promise.
 use Prim.Native.Nat.{_*_, _+_, _-_, _≤_}
 use lib.ListN.{drop}
 use native.Mathlib.Omega.{arith}
 use Rattle.record.specs.Table.{messages}
-use Rattle.results.proofs.Told.{replies-from, replies-over}
+use Rattle.rows.proofs.Lines.{replies-from, replies-over}
 use Rattle.printing.proofs.Writing.{Going, begin, bounded, over, turn}
 use Rattle.printing.specs.Printed.{linesOf, replyLine}
-use Rattle.results.specs.Rows.{replyLines}
+use Rattle.rows.specs.Rows.{replyLines}
 use Rattle.printing.specs.Widths.{replyWidest}
 use Rattle.rules.specs.Said.{replyRows}
-use Rattle.results.proofs.rows.put_replies.Statement.{statement}
-use Rattle.results.proofs.rows.put_replies.Tie as tie
+use Rattle.rows.proofs.put_replies.Statement.{statement}
+use Rattle.rows.proofs.put_replies.Tie as tie
 
 abbrev Inv-loop : tie.InvT-loop
 Inv-loop out₀ from t n at₀ p₀ out at p =
