@@ -1,3 +1,1 @@
-pub mod Deeds
 pub mod Outcomes
-pub mod Seven

@@ -17,7 +17,8 @@ use Rattle.rules.specs.Step.{Outcome, accepted, argumentsOf, codeOf, judge, jud
 use Rattle.faults.proofs.Lowest.{three}
 use Rattle.messages.proofs.Picks.{no, yes}
 use Rattle.step.specs.Answer.{Answered}
-use Rattle.step.specs.Coded.{addedIn, allowedIn, decided}
+use Rattle.step.specs.Decided.{decided}
+use Rattle.deeds.specs.Coded.{addedIn, allowedIn}
 use Rattle.faults.specs.Faults.{faults}
 use Rattle.arguments.specs.Ready.{Known, Ready}
 use Rattle.step.specs.declared.judge.Answer.the-variants.{Accepted, Refused}

@@ -1,9 +1,9 @@
 // One step: judged against a record that is known to be lawful, as in a run, and against any table, where refusal 1 comes first.
-use crate::codes::added;
-use crate::codes::is_allowed;
 use arguments::codes::all_rows;
 use arguments::codes::is_known;
 use arguments::codes::row_of;
+use deeds::added;
+use deeds::is_allowed;
 use faults::FINE;
 use faults::first_fault;
 use messages::parts::Place;
@@ -19,7 +19,7 @@ ghost use Rattle.arguments.specs.Ready.{Ready};
 ghost use Rattle.record.specs.Table.{messages, roomOf, whole};
 ghost use Rattle.rules.specs.Step.{judge as judgeOf, judgeTable};
 ghost use Rattle.step.specs.Answer.{Answered};
-ghost use Rattle.step.specs.Coded.{decided};
+ghost use Rattle.step.specs.Decided.{decided};
 
 // What a step answers: the place of the message that it added, or the number of the refusal.
 pub enum Answer {

@@ -1,3 +1,2 @@
 // One step against a record: demand 2 of the approvals office.
-pub mod codes;
 pub mod judge;

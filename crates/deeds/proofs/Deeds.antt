@@ -16,7 +16,7 @@ use Rattle.rules.specs.Codes.{Argument, Deed, Row, asks, forges, invoices, pays
 use Rattle.rules.specs.Honest.{holds}
 use Rattle.rules.specs.Step.{added, argumentsOf, claims, codeOf}
 use Rattle.forged.specs.Outside.{forgedIn}
-use Rattle.step.specs.Coded.{addedIn, allowedIn}
+use Rattle.deeds.specs.Coded.{addedIn, allowedIn}
 
 abbrev pub deedOf : Row → Deed
 deedOf x = x .deed

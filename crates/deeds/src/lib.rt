@@ -1,4 +1,4 @@
-// What a step does, by its code: whether its condition holds, and the message that it adds.
+// The deed of a step, by its code: whether its condition holds, and the message that it adds.
 use forged::added::forge_initiate;
 use forged::added::forge_invoice;
 use forged::added::forge_payment;
@@ -24,7 +24,7 @@ ghost use lib.ListN.{length};
 ghost use Rattle.arguments.specs.Ready.{Ready, ReadyStep};
 ghost use Rattle.messages.specs.Layout.{messageWidth};
 ghost use Rattle.record.specs.Table.{messageIn, roomOf};
-ghost use Rattle.step.specs.Coded.{addedIn, allowedIn};
+ghost use Rattle.deeds.specs.Coded.{addedIn, allowedIn};
 
 // The message that an argument names.
 fn named(t: &[u16], x: u16) -> &[u16]

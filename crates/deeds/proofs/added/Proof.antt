@@ -1,4 +1,4 @@
--- `step::codes::added` meets its promise.
+-- `deeds::added` meets its promise.
 use Prim.Native.Nat.{_+_, _<_, ℕ}
 use borrow.Author.Needs.{needs}
 use lib.ListN.{getD}
@@ -11,11 +11,11 @@ use Rattle.rules.specs.Codes.{forges}
 use Rattle.rules.specs.Honest.{asked, invoiced, paid, replied, started}
 use Rattle.rules.specs.Step.{codeOf}
 use Rattle.arguments.proofs.Places.{for-table}
-use Rattle.step.proofs.Deeds.{deedOf, forges-so, neighbours}
-use Rattle.step.proofs.Seven.{at-code, message-there, safe-place}
-use Rattle.step.specs.Coded.{addedIn}
-use Rattle.step.proofs.codes.added.Statement.{statement}
-use Rattle.step.proofs.codes.added.Tie as tie
+use Rattle.deeds.proofs.Deeds.{deedOf, forges-so, neighbours}
+use Rattle.deeds.proofs.Seven.{at-code, message-there, safe-place}
+use Rattle.deeds.specs.Coded.{addedIn}
+use Rattle.deeds.proofs.added.Statement.{statement}
+use Rattle.deeds.proofs.added.Tie as tie
 
 named-requires : tie.Need-named-requires
 named-requires c κs =

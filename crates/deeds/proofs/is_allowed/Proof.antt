@@ -1,4 +1,4 @@
--- `step::codes::is_allowed` meets its promise.
+-- `deeds::is_allowed` meets its promise.
 use borrow.Author.Needs.{needs}
 use lib.ListN.{getD}
 use mathlib.Core.Path.{_∙_, ap, ap₂, refl}
@@ -6,11 +6,11 @@ use native.Mathlib.Omega.{arith}
 use Rattle.messages.specs.Parts.{Message}
 use Rattle.messages.specs.Tests.{all}
 use Rattle.rules.specs.Honest.{askClaims, holds, invoiceClaims, payClaims, replyClaims}
-use Rattle.step.proofs.Deeds.{unconditional}
-use Rattle.step.proofs.Seven.{at-code, message-there, safe-place}
-use Rattle.step.specs.Coded.{allowedIn}
-use Rattle.step.proofs.codes.is_allowed.Statement.{statement}
-use Rattle.step.proofs.codes.is_allowed.Tie as tie
+use Rattle.deeds.proofs.Deeds.{unconditional}
+use Rattle.deeds.proofs.Seven.{at-code, message-there, safe-place}
+use Rattle.deeds.specs.Coded.{allowedIn}
+use Rattle.deeds.proofs.is_allowed.Statement.{statement}
+use Rattle.deeds.proofs.is_allowed.Tie as tie
 
 named-requires : tie.Need-named-requires
 named-requires c κs =
