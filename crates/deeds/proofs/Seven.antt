@@ -61,7 +61,8 @@ module _ {n : ℕ} {t row s : List ℕ} (ready : Ready n t row s) where
 
   -- argument i is the place of a message, by what the row of this code has there
   module _ (code i : ℕ) (e : codeOf s ≡ code) (h : i < 6)
-      (w : placed n (getD (rowOf code .takes) i Argument.unused) (getD s (i + 1) 0) ≡ placed n (Argument.at Rattle.rules.specs.Codes.h) (getD s (i + 1) 0)) where
+      (w : placed n (getD (rowOf code .takes) i Argument.unused) (getD s (i + 1) 0) ≡ placed n (Argument.at
+      Rattle.rules.specs.Codes.h) (getD s (i + 1) 0)) where
     in-range : placed n (Argument.at Rattle.rules.specs.Codes.h) (getD s (i + 1) 0) ≡ true
     in-range =
         sym w ∙ subst (λ (c : ℕ). placed n (getD (rowOf c .takes) i Argument.unused) (getD s (i + 1) 0) ≡ true) e (named-place i h)

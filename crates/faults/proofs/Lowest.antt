@@ -137,7 +137,8 @@ pub turn : (n : ℕ) (R : Record) {row s : List ℕ} (known : Known row s) (i f 
     → f ≡ faultOf n R (getD (rowOf (codeOf s) .takes) i Argument.unused) (getD s (i + 1) 0)
     → min first (faults n R (drop i (rowOf (codeOf s) .takes)) (drop i (argumentsOf s))) ≡ faults n R (rowOf (codeOf s) .takes) (argumentsOf s)
     → next ≡ min first f
-    → min next (faults n R (drop (i + 1) (rowOf (codeOf s) .takes)) (drop (i + 1) (argumentsOf s))) ≡ faults n R (rowOf (codeOf s) .takes) (argumentsOf s)
+    → min next (faults n R (drop (i + 1) (rowOf (codeOf s) .takes)) (drop (i + 1) (argumentsOf s))) ≡ faults n R (rowOf (codeOf s) .takes)
+    (argumentsOf s)
 turn n R {s = s} known i f first next l e inv p =
     let ks = rowOf (codeOf s) .takes in
     let xs = argumentsOf s in

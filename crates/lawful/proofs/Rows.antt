@@ -1,7 +1,7 @@
--- A table of rows: what stands at a place of it when it is laid out flat, and a message held to a row of ranges from a position on.
-use mathlib.Core.Bool.{Bool, true, _&&_}
+-- A table of rows: what stands at a place of it when it is laid out flat, as data and as the numbers that stand for it.
+use mathlib.Core.Bool.{Bool, true}
 use mathlib.Core.List.{List, [], _∷_, _++_, map}
-use mathlib.Core.Path.{_≡_, _∙_, refl, sym, ap, ap₂, subst}
+use mathlib.Core.Path.{_≡_, _∙_, refl, sym, ap, subst}
 use Prim.Native.Nat.{ℕ, zero, suc, _+_, _*_, _<_}
 use borrow.Author.Tests.{eqb-true}
 use lib.Dec.{eqb}
@@ -9,10 +9,8 @@ use Rattle.messages.specs.Layout.{flat}
 use Rattle.messages.specs.Tests.{all}
 use Rattle.messages.proofs.Chain.{left-of, right-of}
 use native.Mathlib.Nat.{zero-add, add-assoc, suc-mul, zero-mul, not-suc-le-zero, le-of-suc-le-suc, add-comm}
-use native.Mathlib.Numerals.{add-one}
-use lib.ListN.{List·getD-append, List·getD-map, drop, getD, length}
-use lib.Seq.{drop-cons, getD-append-add}
-use Rattle.lawful.specs.Lawful.{Range, fits, unused, within}
+use lib.ListN.{List·getD-append, List·getD-map, getD, length}
+use lib.Seq.{getD-append-add}
 
 -- every row has w entries
 abbrev pub even : {A : Type 0} → ℕ → List (List A) → Bool
@@ -36,13 +34,6 @@ flat-at w (r ∷ rs) d ds e (suc k) i h l =
     (ap (_+ i) (suc-mul k w ∙ add-comm (k * w) w) ∙ add-assoc w (k * w) i ∙ ap (_+ (k * w + i)) (sym long))
     ∙ getD-append-add r (flat rs) (k * w + i) d
     ∙ flat-at w rs d ds (right-of (eqb (length r) w) _ e) k i (le-of-suc-le-suc h) l
-
--- one position further: the number there, and the rest
-pub fits-from : (rs : List Range) (xs : List ℕ) (i : ℕ) → i < length rs → i < length xs
-    → fits (drop i rs) (drop i xs) ≡ (within (getD rs i unused) (getD xs i 0) && fits (drop (i + 1) rs) (drop (i + 1) xs))
-fits-from rs xs i h l =
-    ap₂ fits (drop-cons rs i unused h) (drop-cons xs i 0 l)
-    ∙ ap (λ (k : ℕ). within (getD rs i unused) (getD xs i 0) && fits (drop k rs) (drop k xs)) (sym (add-one i))
 
 -- inside a list the default does not matter
 getD-any : {A : Type 0} (l : List A) (k : ℕ) (d d′ : A) → k < length l → getD l k d ≡ getD l k d′

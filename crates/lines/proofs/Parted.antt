@@ -57,7 +57,8 @@ lines-from t at h =
     let k = suc (before lineFeed (drop at t)) in
     first-line (drop at t) (omega (arith, length-drop at t))
     ∙ ap₂ (λ (x : Text) (z : Text). x ∷ lines z) (sym (line-here t at h))
-    (sym (drop-taken k (drop at t)) ∙ drop-drop (length (take k (drop at t))) at t ∙ ap (λ (z : Text). drop (at + length z) t) (sym (line-here t at h)))
+    (sym (drop-taken k (drop at t)) ∙ drop-drop (length (take k (drop at t))) at t
+    ∙ ap (λ (z : Text). drop (at + length z) t) (sym (line-here t at h)))
 
 pub line-within : (t : Text) (at : ℕ) → at < length t → (1 ≤ length (lineAt t at)) × (at + length (lineAt t at) ≤ length t)
 line-within t at h =

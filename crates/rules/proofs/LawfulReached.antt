@@ -121,7 +121,8 @@ module _ {room : ℕ} {R : Record} {d : Deed} {ks : List Argument} {xs : List �
   -- a: his own, or from a slip under key 0
   account✓ : Account✓ (account R ks xs)
   account✓ =
-      picked Account✓ (eqb n 0) (record { 0 = 0 }) (slipIn w .account) (λ e. refl) (λ e. slip-account (slipIn w) (by-cases e (gives Argument.a ks) refl))
+      picked Account✓ (eqb n 0) (record { 0 = 0 }) (slipIn w .account) (λ e. refl)
+      (λ e. slip-account (slipIn w) (by-cases e (gives Argument.a ks) refl))
     where
       n : ℕ
       n = given Argument.a ks xs

@@ -10,7 +10,7 @@ use lib.Dec.{eqb}
 use lib.ListN.{getD, length, take}
 use lib.Seq.{split-at}
 use Rattle.messages.proofs.Chain.{left-of, right-of}
-use Rattle.messages.specs.Tests.{all, between, same}
+use Rattle.messages.specs.Tests.{all, same}
 
 -- both of two tests, one of two, and the other of two
 pub both : {a b : Bool} → a ≡ true → b ≡ true → (a && b) ≡ true

@@ -20,7 +20,8 @@ module _ (answers : ℕ) (t xs bytes : List ℕ) where
   refuses : (k : ℕ) → true ≡ not (eqb k 0) → run answers t xs bytes ≡ nothing k → Leaves (run answers t xs bytes) (Refused k) t bytes
   unfolding nothing
   refuses k h e =
-      subst (λ (o : RanOf). Leaves o (Refused k) t bytes) (sym e) (record { number = refl; n = refl; told-apart = h; table-left = refl; bytes-left = refl; small = zero-le })
+      subst (λ (o : RanOf). Leaves o (Refused k) t bytes) (sym e)
+      (record { number = refl; n = refl; told-apart = h; table-left = refl; bytes-left = refl; small = zero-le })
 
   pub not-whole : whole t ≡ false → Leaves (run answers t xs bytes) (Refused 1) t bytes
   unfolding run nothing
@@ -41,4 +42,11 @@ module _ (answers : ℕ) (t xs bytes : List ℕ) where
       unfolding run
       plays n table left e w =
           subst (λ (o : RanOf). Leaves o (Messages n) table left) (yes _ a (yes _ b (yes _ e refl)))
-          (record { number = refl; n = w .counted; told-apart = refl; table-left = w .record-left; bytes-left = w .verdicts-left; small = omega (arith, w .within, most t a) })
+          (record {
+            number = refl;
+            n = w .counted;
+            told-apart = refl;
+            table-left = w .record-left;
+            bytes-left = w .verdicts-left;
+            small = omega (arith, w .within, most t a);
+          })

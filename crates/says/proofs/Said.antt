@@ -216,8 +216,16 @@ pub said-too-much : (xs : Text) (numbers : List ℕ) (count at : ℕ) → Going 
 said-too-much xs numbers count at going h =
     let rest = parts (drop at xs) in
     let many : stepWidth < length (parts xs) =
-    omega
-    (arith, length-map (parts xs) valueOf, ap length (going .values), length-append (going .done) (map valueOf rest), length-map rest valueOf, some-part (drop at xs), going .as-many) in
+    omega (
+      arith,
+      length-map (parts xs) valueOf,
+      ap length (going .values),
+      length-append (going .done) (map valueOf rest),
+      length-map rest
+          valueOf,
+      some-part (drop at xs),
+      going .as-many,
+    ) in
     ap
     (λ (b : Bool). cond b (readAs (filled stepWidth 0 (map valueOf (parts xs)))) unread)
     (sym (fails (all isNumber (parts xs) ∷ leb (length (parts xs)) stepWidth ∷ []) 1 (lt-leb _ _ many)))

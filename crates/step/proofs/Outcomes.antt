@@ -10,7 +10,6 @@ use Rattle.record.proofs.Cut.{length-cut}
 use Rattle.messages.specs.Layout.{messageWidth}
 use Rattle.messages.specs.Parts.{Message}
 use Rattle.record.specs.Table.{lawfulRecord, messages, mostRoom, roomOf, withMessage}
-use Rattle.messages.specs.Tests.{all}
 use Rattle.rules.specs.Codes.{known, rowOf}
 use Rattle.rules.specs.Items.{eachArgument, holding, inRange, placed}
 use Rattle.rules.specs.Step.{Outcome, accepted, argumentsOf, codeOf, judge, judgeRow, judgeTable, refused}
@@ -31,7 +30,8 @@ refuses n t {o} {k} e =
 pub accepts : (n : ℕ) (t : List ℕ) {o : Outcome} (m : Message) {left : List ℕ} → o ≡ accepted m → left ≡ withMessage n t m → n < mostRoom
     → Answered n t o (Accepted (record { 0 = n + 1 })) left
 accepts n t m {left} e p h =
-    subst (λ (x : Outcome). Answered n t x (Accepted (record { 0 = n + 1 })) left) (sym e) (record { number = refl; place = refl; table = p; small = omega arith })
+    subst (λ (x : Outcome). Answered n t x (Accepted (record { 0 = n + 1 })) left) (sym e)
+    (record { number = refl; place = refl; table = p; small = omega arith })
 
 -- three gates: a number is given by the first that is shut, and 9 only where all stand open
 shut : (a b c : Bool) (o : Outcome) → (three a b c ≡ 9 → ⊥)

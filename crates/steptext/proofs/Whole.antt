@@ -2,7 +2,7 @@
 use mathlib.Core.Bool.{Bool, false, _&&_, and-false, cond, false≢true}
 use mathlib.Core.List.{List, [], _∷_, _++_}
 use mathlib.Core.Path.{_≡_, _∙_, refl, sym, ap, subst}
-use Prim.Native.Nat.{ℕ, _+_, _*_, _-_, _≤_, _<_}
+use Prim.Native.Nat.{ℕ, _*_, _-_, _≤_, _<_}
 use borrow.Author.Tests.{le-leb, lt-leb}
 use native.Mathlib.Nat.{zero-add}
 use native.Mathlib.Omega.{arith}
@@ -92,14 +92,16 @@ module _ (t : Text) (steps : List ℕ) where
   too-short h =
       leaves-too-long
       (ap (λ (b : Bool). cond b (readLines (lines t)) tooLong)
-      (sym (ap (λ (b : Bool). leb (length t) mostBytes && b) (lt-leb (mostSteps * stepWidth) (length steps) h) ∙ and-false (leb (length t) mostBytes))))
+      (sym (ap (λ (b : Bool). leb (length t) mostBytes && b) (lt-leb (mostSteps * stepWidth) (length steps) h)
+      ∙ and-false (leb (length t) mostBytes))))
 
   module _ (small : length t ≤ mostBytes) (wide : mostSteps * stepWidth ≤ length steps) where
     by-lines : readLines (lines t) ≡ readText (length steps) t
     unfolding readText
     by-lines =
         ap (λ (b : Bool). cond b (readLines (lines t)) tooLong)
-        (sym (ap (λ (b : Bool). b && leb (mostSteps * stepWidth) (length steps)) (le-leb (length t) mostBytes small) ∙ le-leb (mostSteps * stepWidth) (length steps) wide))
+        (sym (ap (λ (b : Bool). b && leb (mostSteps * stepWidth) (length steps)) (le-leb (length t) mostBytes small)
+        ∙ le-leb (mostSteps * stepWidth) (length steps) wide))
 
     pub unread-first : Unreadable ≡ answersSaid (lineAt t 0) → Leaves (readText (length steps) t) steps (UnreadableAt 1) steps
     unread-first e =

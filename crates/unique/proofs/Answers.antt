@@ -60,14 +60,21 @@ same-read TooLong (Unreadable l) e f g h = absurd (omega arith)
 same-read TooLong TooLong e f g h = refl
 
 pub run-unique : RunUnique
-run-unique answers t xs bytes r r′ table table′ verdicts verdicts′ w w′ =
-    (same-ran r r′ (w .number ∙ sym (w′ .number)) (w .n ∙ sym (w′ .n)) (w .told-apart ∙ sym (w′ .told-apart)), w .table-left ∙ sym (w′ .table-left), w .bytes-left ∙ sym (w′ .bytes-left))
+run-unique answers t xs bytes r r′ table table′ verdicts verdicts′ w w′ = (
+  same-ran r r′ (w .number ∙ sym (w′ .number)) (w .n ∙ sym (w′ .n)) (w .told-apart ∙ sym (w′ .told-apart)),
+  w .table-left
+      ∙ sym (w′ .table-left),
+  w .bytes-left ∙ sym (w′ .bytes-left),
+)
 
 pub text-unique : TextUnique
 text-unique text t r r′ left left′ w w′ =
     let a = w .tells in
-    let b = w′ .tells in
-    (same-read r r′ (a .number ∙ sym (b .number)) (a .answers ∙ sym (b .answers)) (a .count ∙ sym (b .count)) (a .line ∙ sym (b .line)), w .table ∙ sym (w′ .table))
+    let b = w′ .tells in (
+      same-read r r′ (a .number ∙ sym (b .number)) (a .answers ∙ sym (b .answers)) (a .count ∙ sym (b .count)) (a .line ∙ sym (b .line)),
+      w
+          .table ∙ sym (w′ .table),
+    )
 
 pub play-unique : PlayUnique
 play-unique text t out r r′ table table′ left left′ a b =

@@ -14,5 +14,11 @@ kp-run-unique o r r′ n n′ table table′ verdicts verdicts′ w w′ =
     (w .number ∙ sym (w′ .number), w .count ∙ sym (w′ .count), w .table-left ∙ sym (w′ .table-left), w .bytes-left ∙ sym (w′ .bytes-left))
 
 pub kp-read-unique : KpReadUnique
-kp-read-unique t o r r′ answers answers′ count count′ line line′ left left′ w w′ =
-    (w .number ∙ sym (w′ .number), w .said ∙ sym (w′ .said), w .how-many ∙ sym (w′ .how-many), w .at ∙ sym (w′ .at), w .steps-left ∙ sym (w′ .steps-left))
+kp-read-unique t o r r′ answers answers′ count count′ line line′ left left′ w w′ = (
+  w .number ∙ sym (w′ .number),
+  w .said ∙ sym (w′ .said),
+  w .how-many ∙ sym (w′ .how-many),
+  w .at ∙ sym (w′ .at),
+  w .steps-left
+      ∙ sym (w′ .steps-left),
+)

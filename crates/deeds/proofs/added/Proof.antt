@@ -53,7 +53,8 @@ returns c =
     let the-pre = c .before .before .before .before .before .before .before .before .pre in
     at-code (addedIn (the-args .answers) (the-args .n) (the-args .t .now)) (the-args .s .now) 1 (the-pre .0 .known .seven) (the-match .keys1)
     (c .started .ensures
-    ∙ ap (λ (k : ℕ). started (record { 0 = getD (the-args .s .now) 1 0 }) (record { 0 = getD (the-args .s .now) 2 0 }) (record { 0 = k + 1 })) (sym (length-cut messageWidth (the-args .n) (the-args .t .now))))
+    ∙ ap (λ (k : ℕ). started (record { 0 = getD (the-args .s .now) 1 0 }) (record { 0 = getD (the-args .s .now) 2 0 })
+    (record { 0 = k + 1 })) (sym (length-cut messageWidth (the-args .n) (the-args .t .now))))
 
 returns-2 : tie.Need-returns-2
 returns-2 c =
@@ -61,7 +62,9 @@ returns-2 c =
     let the-args = c .before .before .before .before .before .before .before .before .before .args in
     let the-pre = c .before .before .before .before .before .before .before .before .before .pre in
     at-code (addedIn (the-args .answers) (the-args .n) (the-args .t .now)) (the-args .s .now) 2 (the-pre .0 .known .seven) (the-match .keys2)
-    (c .invoiced .ensures ∙ ap (invoiced (record { 0 = getD (the-args .s .now) 1 0 })) (message-there (the-pre .0) 2 1 (the-match .keys2) (omega arith) refl (c .before .named .ensures .0)))
+    (c .invoiced .ensures
+    ∙ ap (invoiced (record { 0 = getD (the-args .s .now) 1 0 }))
+    (message-there (the-pre .0) 2 1 (the-match .keys2) (omega arith) refl (c .before .named .ensures .0)))
 
 returns-3 : tie.Need-returns-3
 returns-3 c =
@@ -69,7 +72,8 @@ returns-3 c =
     let the-args = c .before .before .before .before .before .before .before .before .before .args in
     let the-pre = c .before .before .before .before .before .before .before .before .before .pre in
     at-code (addedIn (the-args .answers) (the-args .n) (the-args .t .now)) (the-args .s .now) 3 (the-pre .0 .known .seven) (the-match .keys3)
-    (c .paid .ensures ∙ ap (paid (record { 0 = getD (the-args .s .now) 1 0 })) (message-there (the-pre .0) 3 1 (the-match .keys3) (omega arith) refl (c .before .named2 .ensures .0)))
+    (c .paid .ensures ∙ ap (paid (record { 0 = getD (the-args .s .now) 1 0 }))
+    (message-there (the-pre .0) 3 1 (the-match .keys3) (omega arith) refl (c .before .named2 .ensures .0)))
 
 returns-4 : tie.Need-returns-4
 returns-4 c =
@@ -78,7 +82,9 @@ returns-4 c =
     let the-args = c .before .before .before .before .before .before .before .before .before .before .before .args in
     let the-pre = c .before .before .before .before .before .before .before .before .before .before .before .pre in
     at-code (addedIn (the-args .answers) (the-args .n) (the-args .t .now)) (the-args .s .now) 4 (the-pre .0 .known .seven) (the-match .keys4)
-    (c .asked .ensures ∙ ap₂ (asked (record { 0 = getD (the-args .s .now) 1 0 })) (message-there (the-pre .0) 4 1 (the-match .keys4) (omega arith) refl (the-named3 .ensures .0)) (message-there (the-pre .0) 4 2 (the-match .keys4) (omega arith) refl (c .before .named4 .ensures .0)))
+    (c .asked .ensures ∙ ap₂ (asked (record { 0 = getD (the-args .s .now) 1 0 }))
+    (message-there (the-pre .0) 4 1 (the-match .keys4) (omega arith) refl (the-named3 .ensures .0))
+    (message-there (the-pre .0) 4 2 (the-match .keys4) (omega arith) refl (c .before .named4 .ensures .0)))
 
 returns-5 : tie.Need-returns-5
 returns-5 c =
@@ -86,34 +92,39 @@ returns-5 c =
     let the-args = c .before .before .before .before .before .before .before .before .args in
     let the-pre = c .before .before .before .before .before .before .before .before .pre in
     at-code (addedIn (the-args .answers) (the-args .n) (the-args .t .now)) (the-args .s .now) 5 (the-pre .0 .known .seven) (the-match .keys5)
-    (c .replied .ensures ∙ ap (replied (the-args .answers)) (message-there (the-pre .0) 5 0 (the-match .keys5) (omega arith) refl (c .before .named5 .ensures .0)))
+    (c .replied .ensures ∙ ap (replied (the-args .answers))
+    (message-there (the-pre .0) 5 0 (the-match .keys5) (omega arith) refl (c .before .named5 .ensures .0)))
 
 returns-6 : tie.Need-returns-6
 returns-6 c =
     let the-args = c .before .before .before .before .before .before .before .before .args in
     let the-pre = c .before .before .before .before .before .before .before .before .pre in
-    forges-so (the-args .answers) (the-args .n) (the-args .t .now) (the-args .s .now) Initiate (neighbours deedOf 5 2 (forges Initiate) refl (codeOf (the-args .s .now)) (omega arith) (omega arith))
+    forges-so (the-args .answers) (the-args .n) (the-args .t .now) (the-args .s .now) Initiate
+    (neighbours deedOf 5 2 (forges Initiate) refl (codeOf (the-args .s .now)) (omega arith) (omega arith))
     (c .forge-initiate .ensures (the-args .n) (the-pre .0))
 
 returns-7 : tie.Need-returns-7
 returns-7 c =
     let the-args = c .before .before .before .before .before .before .before .before .before .args in
     let the-pre = c .before .before .before .before .before .before .before .before .before .pre in
-    forges-so (the-args .answers) (the-args .n) (the-args .t .now) (the-args .s .now) Invoice (neighbours deedOf 7 6 (forges Invoice) refl (codeOf (the-args .s .now)) (omega arith) (omega arith))
+    forges-so (the-args .answers) (the-args .n) (the-args .t .now) (the-args .s .now) Invoice
+    (neighbours deedOf 7 6 (forges Invoice) refl (codeOf (the-args .s .now)) (omega arith) (omega arith))
     (c .forge-invoice .ensures (the-args .n) (the-pre .0))
 
 returns-8 : tie.Need-returns-8
 returns-8 c =
     let the-args = c .before .before .before .before .before .before .before .before .before .before .args in
     let the-pre = c .before .before .before .before .before .before .before .before .before .before .pre in
-    forges-so (the-args .answers) (the-args .n) (the-args .t .now) (the-args .s .now) Payment (neighbours deedOf 13 8 (forges Payment) refl (codeOf (the-args .s .now)) (omega arith) (omega arith))
+    forges-so (the-args .answers) (the-args .n) (the-args .t .now) (the-args .s .now) Payment
+    (neighbours deedOf 13 8 (forges Payment) refl (codeOf (the-args .s .now)) (omega arith) (omega arith))
     (c .forge-payment .ensures (the-args .n) (the-pre .0))
 
 returns-9 : tie.Need-returns-9
 returns-9 c =
     let the-args = c .before .before .before .before .before .before .before .before .before .before .before .args in
     let the-pre = c .before .before .before .before .before .before .before .before .before .before .before .pre in
-    forges-so (the-args .answers) (the-args .n) (the-args .t .now) (the-args .s .now) AuthRequest (neighbours deedOf 21 12 (forges AuthRequest) refl (codeOf (the-args .s .now)) (omega arith) (omega arith))
+    forges-so (the-args .answers) (the-args .n) (the-args .t .now) (the-args .s .now) AuthRequest
+    (neighbours deedOf 21 12 (forges AuthRequest) refl (codeOf (the-args .s .now)) (omega arith) (omega arith))
     (c .forge-request .ensures (the-args .n) (the-pre .0))
 
 returns-10 : tie.Need-returns-10
@@ -123,7 +134,8 @@ returns-10 c =
     let high = the-pre .0 .known .high in
     let low = the-pre .0 .known .low in
     let above : 33 < codeOf (the-args .s .now) = ⊎-elim (λ z. absurd (omega arith)) (λ z. omega arith) (c .before .if1 .came) in
-    forges-so (the-args .answers) (the-args .n) (the-args .t .now) (the-args .s .now) AuthResponse (neighbours deedOf 33 4 (forges AuthResponse) refl (codeOf (the-args .s .now)) above (omega arith))
+    forges-so (the-args .answers) (the-args .n) (the-args .t .now) (the-args .s .now) AuthResponse
+    (neighbours deedOf 33 4 (forges AuthResponse) refl (codeOf (the-args .s .now)) above (omega arith))
     (c .forge-response .ensures (the-args .n) (the-pre .0))
 
 pub added-spec : {M : Type 1} → statement M

@@ -54,7 +54,9 @@ returns c =
     let the-pre = c .before .before .before .before .before .before .before .before .pre in
     λ n ready.
     at-code (allowedIn n (the-args .t .now)) (the-args .s .now) 2 (the-pre .known .seven) (the-match .keys1)
-    (c .may-invoice .ensures ∙ ap (λ (x : Message). all holds (invoiceClaims (record { 0 = getD (the-args .s .now) 1 0 }) x)) (message-there ready 2 1 (the-match .keys1) (omega arith) refl (c .before .named .ensures .0)))
+    (c .may-invoice .ensures
+    ∙ ap (λ (x : Message). all holds (invoiceClaims (record { 0 = getD (the-args .s .now) 1 0 }) x))
+    (message-there ready 2 1 (the-match .keys1) (omega arith) refl (c .before .named .ensures .0)))
 
 returns-2 : tie.Need-returns-2
 returns-2 c =
@@ -65,7 +67,9 @@ returns-2 c =
     λ n ready.
     at-code (allowedIn n (the-args .t .now)) (the-args .s .now) 3 (the-pre .known .seven) (the-match .keys2)
     (c .may-pay .ensures
-    ∙ ap₂ (λ (x y : Message). all holds (payClaims (record { 0 = getD (the-args .s .now) 1 0 }) x y)) (message-there ready 3 1 (the-match .keys2) (omega arith) refl (the-named2 .ensures .0)) (message-there ready 3 2 (the-match .keys2) (omega arith) refl (c .before .named3 .ensures .0)))
+    ∙ ap₂ (λ (x y : Message). all holds (payClaims (record { 0 = getD (the-args .s .now) 1 0 }) x y))
+    (message-there ready 3 1 (the-match .keys2) (omega arith) refl (the-named2 .ensures .0))
+    (message-there ready 3 2 (the-match .keys2) (omega arith) refl (c .before .named3 .ensures .0)))
 
 returns-3 : tie.Need-returns-3
 returns-3 c =
@@ -76,7 +80,9 @@ returns-3 c =
     λ n ready.
     at-code (allowedIn n (the-args .t .now)) (the-args .s .now) 4 (the-pre .known .seven) (the-match .keys3)
     (c .may-ask .ensures
-    ∙ ap₂ (λ (x y : Message). all holds (askClaims (record { 0 = getD (the-args .s .now) 1 0 }) x y)) (message-there ready 4 1 (the-match .keys3) (omega arith) refl (the-named4 .ensures .0)) (message-there ready 4 2 (the-match .keys3) (omega arith) refl (c .before .named5 .ensures .0)))
+    ∙ ap₂ (λ (x y : Message). all holds (askClaims (record { 0 = getD (the-args .s .now) 1 0 }) x y))
+    (message-there ready 4 1 (the-match .keys3) (omega arith) refl (the-named4 .ensures .0))
+    (message-there ready 4 2 (the-match .keys3) (omega arith) refl (c .before .named5 .ensures .0)))
 
 returns-4 : tie.Need-returns-4
 returns-4 c =
@@ -85,7 +91,9 @@ returns-4 c =
     let the-pre = c .before .before .before .before .before .before .before .pre in
     λ n ready.
     at-code (allowedIn n (the-args .t .now)) (the-args .s .now) 5 (the-pre .known .seven) (the-match .keys4)
-    (c .may-reply .ensures ∙ ap (λ (x : Message). all holds (replyClaims x)) (message-there ready 5 0 (the-match .keys4) (omega arith) refl (c .before .named6 .ensures .0)))
+    (c .may-reply .ensures
+    ∙ ap (λ (x : Message). all holds (replyClaims x))
+    (message-there ready 5 0 (the-match .keys4) (omega arith) refl (c .before .named6 .ensures .0)))
 
 returns-5 : tie.Need-returns-5
 returns-5 c =

@@ -34,8 +34,11 @@ loop-again c =
     let the-loop-test = c .before .before .loop-test in
     let the-loop = c .before .before .before .loop in
     let the-args = c .before .before .before .before .args in
-    let the-pre = c .before .before .before .before .pre in
-    (omega arith, skip (eq-eqb _ _ (c .if1 .left)) refl ∙ sym (zero-from (the-args .s .now) (the-loop .i) (the-pre .0) (the-loop-test .taken)) ∙ the-loop .inv .1)
+    let the-pre = c .before .before .before .before .pre in (
+      omega arith,
+      skip (eq-eqb _ _ (c .if1 .left)) refl
+          ∙ sym (zero-from (the-args .s .now) (the-loop .i) (the-pre .0) (the-loop-test .taken)) ∙ the-loop .inv .1,
+    )
 
 returns-2 : tie.Need-returns-2 Inv-loop μ-loop
 returns-2 c =

@@ -10,17 +10,20 @@ use Rattle.faults.proofs.fault.Tie as tie
 returns : tie.Need-returns
 returns c =
     let the-args = c .before .before .before .args in
-    λ k e. by-letter (the-args .n) (messages (the-args .n) (the-args .t .now)) k (the-args .x) 83 (e ∙ c .before .if1 .taken) (c .range-fault .ensures)
+    λ k e. by-letter (the-args .n) (messages (the-args .n) (the-args .t .now)) k (the-args .x) 83 (e ∙ c .before .if1 .taken)
+    (c .range-fault .ensures)
 
 returns-2 : tie.Need-returns-2
 returns-2 c =
     let the-args = c .before .before .before .before .args in
-    λ k e. by-letter (the-args .n) (messages (the-args .n) (the-args .t .now)) k (the-args .x) 66 (e ∙ c .before .if2 .taken) (c .range-fault2 .ensures)
+    λ k e. by-letter (the-args .n) (messages (the-args .n) (the-args .t .now)) k (the-args .x) 66 (e ∙ c .before .if2 .taken)
+    (c .range-fault2 .ensures)
 
 returns-3 : tie.Need-returns-3
 returns-3 c =
     let the-args = c .before .before .before .before .before .args in
-    λ k e. by-letter (the-args .n) (messages (the-args .n) (the-args .t .now)) k (the-args .x) 99 (e ∙ c .before .if3 .taken) (c .range-fault3 .ensures)
+    λ k e. by-letter (the-args .n) (messages (the-args .n) (the-args .t .now)) k (the-args .x) 99 (e ∙ c .before .if3 .taken)
+    (c .range-fault3 .ensures)
 
 returns-4 : tie.Need-returns-4
 returns-4 c =

@@ -30,8 +30,14 @@ abbrev μ-loop : tie.MeasureT-loop
 
 loop-holds : tie.Need-loop-holds Inv-loop μ-loop
 loop-holds c =
-    let the-args = c .before .before .before .args in
-    (omega arith, omega arith, omega arith, start _ (at-most (the-args .n) (messages (the-args .n) (the-args .t .now)) (rowOf (codeOf (the-args .s .now)) .takes) (argumentsOf (the-args .s .now))))
+    let the-args = c .before .before .before .args in (
+      omega arith,
+      omega arith,
+      omega arith,
+      start _
+          (at-most (the-args .n) (messages (the-args .n) (the-args .t .now)) (rowOf (codeOf (the-args .s .now)) .takes)
+          (argumentsOf (the-args .s .now))),
+    )
 
 returns : tie.Need-returns Inv-loop μ-loop
 returns c =
@@ -41,7 +47,9 @@ returns c =
     let the-pre = c .before .before .before .before .before .before .before .before .before .pre in
     let the-args = c .before .before .before .before .before .before .before .before .before .args in
     no {b = c .before .all-unused .result} (the-loop .first) (not-true (c .before .all-unused .result) (c .if2 .taken)) refl
-    ∙ ended (the-args .n) (messages (the-args .n) (the-args .t .now)) (the-pre .1) (the-loop .i) (the-loop .first) (c .before .all-unused .result) (the-loop-test .taken) (the-if1 .taken) (c .before .all-unused .ensures) (the-loop .inv .1) (the-loop .inv .2) (the-loop .inv .3)
+    ∙ ended (the-args .n) (messages (the-args .n) (the-args .t .now)) (the-pre .1) (the-loop .i) (the-loop .first)
+    (c .before .all-unused .result) (the-loop-test .taken) (the-if1 .taken) (c .before .all-unused .ensures) (the-loop .inv .1)
+    (the-loop .inv .2) (the-loop .inv .3)
 
 returns-2 : tie.Need-returns-2 Inv-loop μ-loop
 returns-2 c =
@@ -51,7 +59,9 @@ returns-2 c =
     let the-pre = c .before .before .before .before .before .before .before .before .before .pre in
     let the-args = c .before .before .before .before .before .before .before .before .before .args in
     yes {b = c .before .all-unused .result} 3 (not-false (c .before .all-unused .result) (c .if2 .left)) refl
-    ∙ ended (the-args .n) (messages (the-args .n) (the-args .t .now)) (the-pre .1) (the-loop .i) (the-loop .first) (c .before .all-unused .result) (the-loop-test .taken) (the-if1 .taken) (c .before .all-unused .ensures) (the-loop .inv .1) (the-loop .inv .2) (the-loop .inv .3)
+    ∙ ended (the-args .n) (messages (the-args .n) (the-args .t .now)) (the-pre .1) (the-loop .i) (the-loop .first)
+    (c .before .all-unused .result) (the-loop-test .taken) (the-if1 .taken) (c .before .all-unused .ensures) (the-loop .inv .1)
+    (the-loop .inv .2) (the-loop .inv .3)
 
 returns-3 : tie.Need-returns-3 Inv-loop μ-loop
 returns-3 c =
@@ -59,7 +69,10 @@ returns-3 c =
     let the-loop = c .before .before .before .before .before .before .loop in
     let the-pre = c .before .before .before .before .before .before .before .before .before .before .pre in
     let the-args = c .before .before .before .before .before .before .before .before .before .before .args in
-    three-found (the-args .n) (messages (the-args .n) (the-args .t .now)) (the-pre .1) (the-loop .i) (c .before .fault .result) (the-loop .first) (the-loop-test .taken) (c .before .fault .ensures (getD (rowOf (codeOf (the-args .s .now)) .takes) (the-loop .i) Argument.unused) (sym (letter-at (the-pre .1) (the-loop .i) (the-loop-test .taken)))) (the-loop .inv .3) (c .if3 .taken) (the-loop .inv .1)
+    three-found (the-args .n) (messages (the-args .n) (the-args .t .now)) (the-pre .1) (the-loop .i) (c .before .fault .result)
+    (the-loop .first) (the-loop-test .taken)
+    (c .before .fault .ensures (getD (rowOf (codeOf (the-args .s .now)) .takes) (the-loop .i) Argument.unused)
+    (sym (letter-at (the-pre .1) (the-loop .i) (the-loop-test .taken)))) (the-loop .inv .3) (c .if3 .taken) (the-loop .inv .1)
 
 loop-again : tie.Need-loop-again Inv-loop μ-loop
 loop-again c =
@@ -68,16 +81,26 @@ loop-again c =
     let the-loop = c .before .before .before .before .before .before .before .loop in
     let the-pre = c .before .before .before .before .before .before .before .before .before .before .before .pre in
     let the-args = c .before .before .before .before .before .before .before .before .before .before .before .args in
-    let told = (the-fault .ensures (getD (rowOf (codeOf (the-args .s .now)) .takes) (the-loop .i) Argument.unused) (sym (letter-at (the-pre .1) (the-loop .i) (the-loop-test .taken)))) in
-    let least : 3 ≤ the-fault .result = subst (λ (x : ℕ). 3 ≤ x) (sym told) (fault-least (the-args .n) (messages (the-args .n) (the-args .t .now)) (getD (rowOf (codeOf (the-args .s .now)) .takes) (the-loop .i) Argument.unused) (getD (the-args .s .now) (the-loop .i + 1) 0)) in
-    let e : c .if4 .first ≡ min (the-loop .first) (the-fault .result) = ⊎-elim (λ w. omega arith) (λ w. omega arith) (c .if4 .came) in
-    (omega arith, omega (arith, e, least, the-loop .inv .1), omega (arith, e, the-loop .inv .2), turn (the-args .n) (messages (the-args .n) (the-args .t .now)) (the-pre .1) (the-loop .i) (the-fault .result) (the-loop .first) (c .if4 .first) (the-loop-test .taken) told (the-loop .inv .3) e)
+    let told = (the-fault .ensures (getD (rowOf (codeOf (the-args .s .now)) .takes) (the-loop .i) Argument.unused)
+    (sym (letter-at (the-pre .1) (the-loop .i) (the-loop-test .taken)))) in
+    let least : 3 ≤ the-fault .result = subst (λ (x : ℕ). 3 ≤ x) (sym told)
+    (fault-least (the-args .n) (messages (the-args .n) (the-args .t .now))
+    (getD (rowOf (codeOf (the-args .s .now)) .takes) (the-loop .i) Argument.unused) (getD (the-args .s .now) (the-loop .i + 1) 0)) in
+    let e : c .if4 .first ≡ min (the-loop .first) (the-fault .result) = ⊎-elim (λ w. omega arith) (λ w. omega arith) (c .if4 .came) in (
+      omega arith,
+      omega (arith, e, least, the-loop .inv .1),
+      omega (arith, e, the-loop .inv .2),
+      turn (the-args .n)
+          (messages (the-args .n) (the-args .t .now)) (the-pre .1) (the-loop .i) (the-fault .result) (the-loop .first) (c .if4 .first)
+          (the-loop-test .taken) told (the-loop .inv .3) e,
+    )
 
 returns-4 : tie.Need-returns-4 Inv-loop μ-loop
 returns-4 c =
     let the-pre = c .before .before .before .before .before .pre in
     let the-args = c .before .before .before .before .before .args in
-    none-left (the-args .n) (messages (the-args .n) (the-args .t .now)) (the-pre .1) (c .before .loop .i) (c .before .loop .first) (omega arith) (c .before .loop .inv .2) (c .before .loop .inv .3)
+    none-left (the-args .n) (messages (the-args .n) (the-args .t .now)) (the-pre .1) (c .before .loop .i) (c .before .loop .first)
+    (omega arith) (c .before .loop .inv .2) (c .before .loop .inv .3)
 
 pub first-fault-spec : {M : Type 1} → statement M
 first-fault-spec =

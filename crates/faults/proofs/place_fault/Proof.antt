@@ -22,7 +22,9 @@ returns-3 c =
     let the-args = c .before .before .before .before .before .before .args in
     yes _ (inside (the-if1 .left) (the-if2 .left))
     (no _
-    (ap (offers (argumentLettered (the-args .letter))) (message-at (the-args .n) (the-args .t .now) (record { 0 = the-args .x }) (the-if1 .left) (the-if2 .left) ∙ sym (the-message .ensures .0))
+    (ap (offers (argumentLettered (the-args .letter)))
+    (message-at (the-args .n) (the-args .t .now) (record { 0 = the-args .x }) (the-if1 .left) (the-if2 .left)
+    ∙ sym (the-message .ensures .0))
     ∙ failed (c .before .yields .ensures) (c .if3 .taken))
     refl)
 
@@ -34,7 +36,9 @@ returns-4 c =
     let the-args = c .before .before .before .before .before .before .args in
     yes _ (inside (the-if1 .left) (the-if2 .left))
     (yes _
-    (ap (offers (argumentLettered (the-args .letter))) (message-at (the-args .n) (the-args .t .now) (record { 0 = the-args .x }) (the-if1 .left) (the-if2 .left) ∙ sym (the-message .ensures .0))
+    (ap (offers (argumentLettered (the-args .letter)))
+    (message-at (the-args .n) (the-args .t .now) (record { 0 = the-args .x }) (the-if1 .left) (the-if2 .left)
+    ∙ sym (the-message .ensures .0))
     ∙ held (c .before .yields .ensures) (c .if3 .left))
     refl)
 

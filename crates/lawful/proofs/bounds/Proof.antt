@@ -57,8 +57,11 @@ loop-again c =
 
 returns : tie.Need-returns Inv-loop μ-loop
 returns c =
-    let the-loop = c .before .loop in
-    (over _ (the-loop .least) (the-loop .i) (the-loop .inv .3) (the-loop .inv .1) (omega arith), over _ (the-loop .most) (the-loop .i) (the-loop .inv .4) (the-loop .inv .2) (omega arith))
+    let the-loop = c .before .loop in (
+      over _ (the-loop .least) (the-loop .i) (the-loop .inv .3) (the-loop .inv .1) (omega arith),
+      over _ (the-loop .most) (the-loop .i)
+          (the-loop .inv .4) (the-loop .inv .2) (omega arith),
+    )
 
 pub bounds-spec : {M : Type 1} → statement M
 bounds-spec =

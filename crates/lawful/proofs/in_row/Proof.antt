@@ -2,20 +2,29 @@
 -- are together what is asked of the whole.
 use Prim.Native.Nat.{_*_, _+_, _-_, _<_, _≤_, ℕ}
 use lib.ListN.{drop, drop-of-length-le, getD, length}
+use lib.Seq.{drop-cons}
 use mathlib.Core.Bool.{Bool, _&&_, and-assoc, and-true, true}
 use mathlib.Core.List.{List, []}
 use mathlib.Core.Path.{_∙_, _≡_, ap, ap₂, refl, subst, sym}
 use native.Mathlib.Nat.{le-of-eq}
+use native.Mathlib.Numerals.{add-one}
 use native.Mathlib.Omega.{arith}
 use lib.Dec.{leb}
 use Rattle.messages.specs.Layout.{messageWidth}
 use Rattle.messages.specs.Tests.{between}
 use Rattle.lawful.proofs.Lent.{long, of-row, rows-even}
-use Rattle.lawful.proofs.Rows.{even-at, fits-from}
-use Rattle.lawful.specs.Lawful.{Range, fits, kindRanges}
+use Rattle.lawful.proofs.Rows.{even-at}
+use Rattle.lawful.specs.Lawful.{Range, fits, kindRanges, unused, within}
 use Rattle.lawful.specs.Lent.{leastNumbers, mostNumbers}
 use Rattle.lawful.proofs.in_row.Statement.{statement}
 use Rattle.lawful.proofs.in_row.Tie as tie
+
+-- one position further: the number there, and the rest
+fits-from : (rs : List Range) (xs : List ℕ) (i : ℕ) → i < length rs → i < length xs
+    → fits (drop i rs) (drop i xs) ≡ (within (getD rs i unused) (getD xs i 0) && fits (drop (i + 1) rs) (drop (i + 1) xs))
+fits-from rs xs i h l =
+    ap₂ fits (drop-cons rs i unused h) (drop-cons xs i 0 l)
+    ∙ ap (λ (k : ℕ). within (getD rs i unused) (getD xs i 0) && fits (drop k rs) (drop k xs)) (sym (add-one i))
 
 row-of : ℕ → List Range
 row-of k = getD kindRanges k []
@@ -62,7 +71,8 @@ loop-again c =
     let the-args = c .before .before .before .before .before .before .args in
     let the-pre = c .before .before .before .before .before .before .pre in (
       omega arith,
-      turn (the-args .row) (the-loop .i) (the-args .m .now) (the-loop .good) (the-pre .0) (the-pre .1) (the-pre .2) (the-pre .3) (the-loop-test .taken)
+      turn (the-args .row) (the-loop .i) (the-args .m .now) (the-loop .good) (the-pre .0) (the-pre .1) (the-pre .2) (the-pre .3)
+          (the-loop-test .taken)
           ∙ the-loop .inv .1,
     )
 

@@ -67,8 +67,11 @@ loop-again c =
     let the-if4 = c .before .before .before .if4 in
     let the-loop-test = c .before .before .before .before .before .loop-test in
     let the-loop = c .before .before .before .before .before .before .loop in
-    let the-args = c .before .before .before .before .before .before .before .before .before .before .before .before .args in
-    (the-loop .inv .0, turn (the-args .xs .now) (the-loop .sum) (the-loop .i) (the-loop .inv .1) (the-loop-test .taken) (inside (the-if4 .left) (c .before .if5 .left)))
+    let the-args = c .before .before .before .before .before .before .before .before .before .before .before .before .args in (
+      the-loop .inv .0,
+      turn (the-args .xs .now) (the-loop .sum) (the-loop .i) (the-loop .inv .1) (the-loop-test .taken)
+          (inside (the-if4 .left) (c .before .if5 .left)),
+    )
 
 returns-6 : tie.Need-returns-6 Inv-loop μ-loop
 returns-6 c =
@@ -83,7 +86,8 @@ returns-7 c =
     let the-no-needless-0 = c .before .before .before .before .no-needless-0 in
     let the-if2 = c .before .before .before .before .before .if2 in
     let the-args = c .before .before .before .before .before .before .before .before .args in
-    is-number (the-args .xs .now) (the-loop .sum) (the-loop .i) (the-loop .inv .1) (c .before .loop-test .left) (inside (omega arith) (the-if2 .left)) (held (the-no-needless-0 .ensures) (the-if3 .left)) (c .if6 .left)
+    is-number (the-args .xs .now) (the-loop .sum) (the-loop .i) (the-loop .inv .1) (c .before .loop-test .left)
+    (inside (omega arith) (the-if2 .left)) (held (the-no-needless-0 .ensures) (the-if3 .left)) (c .if6 .left)
 
 pub read-number-spec : {M : Type 1} → statement M
 read-number-spec =

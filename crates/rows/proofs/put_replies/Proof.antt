@@ -14,7 +14,8 @@ use Rattle.rows.proofs.put_replies.Tie as tie
 
 abbrev Inv-loop : tie.InvT-loop
 Inv-loop out₀ from t n at₀ p₀ out at p =
-    (p ≤ n) × Going out₀ from (replyLines (messages n t)) (p * replyWidest) out at (linesOf replyLine (replyRows (messages n t) p (drop p (messages n t))))
+    (p ≤ n) × Going out₀ from (replyLines (messages n t)) (p * replyWidest) out at
+    (linesOf replyLine (replyRows (messages n t) p (drop p (messages n t))))
 
 abbrev μ-loop : tie.MeasureT-loop
 μ-loop out₀ from t n at₀ p₀ out at p = n - p
@@ -37,8 +38,13 @@ loop-again c =
     let the-args = c .before .before .before .before .before .before .before .before .args in
     let the-pre = c .before .before .before .before .before .before .before .before .pre in
     let R = messages (the-args .n) (the-args .t .now) in
-    let all-fits = the-pre .0 in
-    (omega arith, turn (linesOf replyLine (replyRows R (the-loop .p + 1) (drop (the-loop .p + 1) R))) ((the-loop .p + 1) * replyWidest) (omega (arith, the-loop .inv .1 .put .within)) (the-loop .inv .1) (replies-from (the-args .t .now) (the-args .n) (the-loop .p) (omega arith)) (the-put-reply .ensures) (omega (arith, the-loop .inv .1 .put .within, the-put-reply .ensures .within)))
+    let all-fits = the-pre .0 in (
+      omega arith,
+      turn (linesOf replyLine (replyRows R (the-loop .p + 1) (drop (the-loop .p + 1) R))) ((the-loop .p + 1) * replyWidest)
+          (omega (arith, the-loop .inv .1 .put .within)) (the-loop .inv .1)
+          (replies-from (the-args .t .now) (the-args .n) (the-loop .p) (omega arith)) (the-put-reply .ensures)
+          (omega (arith, the-loop .inv .1 .put .within, the-put-reply .ensures .within)),
+    )
 
 same-length : tie.Need-same-length Inv-loop μ-loop
 same-length c = c .before .loop .inv .1 .put .long

@@ -14,7 +14,9 @@ returns : tie.Need-returns
 returns c =
     let the-message = c .before .before .message in
     let the-args = c .before .before .before .before .before .args in
-    subst (λ (bs : Text). Put (the-args .out .now) (the-args .at) bs replyWidest (the-args .out .now) (the-args .at)) (no-line (the-args .t .now) (the-args .p) (the-message .ensures .0) (failed (c .before .is-house-reply .ensures) (c .if1 .taken))) (none (the-args .out .now) (the-args .at) replyWidest)
+    subst (λ (bs : Text). Put (the-args .out .now) (the-args .at) bs replyWidest (the-args .out .now) (the-args .at))
+    (no-line (the-args .t .now) (the-args .p) (the-message .ensures .0) (failed (c .before .is-house-reply .ensures) (c .if1 .taken)))
+    (none (the-args .out .now) (the-args .at) replyWidest)
 
 returns-2 : tie.Need-returns-2
 returns-2 c =
@@ -25,7 +27,10 @@ returns-2 c =
     let the-is-house-reply = c .before .before .before .before .before .before .before .is-house-reply in
     let the-message = c .before .before .before .before .before .before .before .before .message in
     let the-args = c .before .before .before .before .before .before .before .before .before .before .before .args in
-    subst (λ (bs : Text). Put (the-args .out .now) (the-args .at) bs replyWidest (the-put-reply-line .last .0) (the-put-reply-line .result)) (its-line (the-args .t .now) (the-args .p) (the-message .ensures .0) (the-reply-signed-at .result) (held (the-is-house-reply .ensures) (the-if1 .left)) (the-reply-signed-at .ensures) (the-report-on .ensures)) (the-put-reply-line .ensures)
+    subst (λ (bs : Text). Put (the-args .out .now) (the-args .at) bs replyWidest (the-put-reply-line .last .0) (the-put-reply-line .result))
+    (its-line (the-args .t .now) (the-args .p) (the-message .ensures .0) (the-reply-signed-at .result)
+    (held (the-is-house-reply .ensures) (the-if1 .left)) (the-reply-signed-at .ensures) (the-report-on .ensures))
+    (the-put-reply-line .ensures)
 
 pub put-reply-spec : {M : Type 1} → statement M
 put-reply-spec =

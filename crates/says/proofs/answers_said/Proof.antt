@@ -41,7 +41,8 @@ returns-5 c =
     let the-if1 = c .before .before .before .before .before .before .before .if1 in
     let the-is-ended = c .before .before .before .before .before .before .before .before .is-ended in
     let the-args = c .before .before .before .before .before .before .before .before .before .before .args in
-    c .read-number .ensures ∙ answers-read (the-args .line .now) (held (the-is-ended .ensures) (the-if1 .left)) (the-if2 .left) (the-if3 .left) (the-if4 .left)
+    c .read-number .ensures
+    ∙ answers-read (the-args .line .now) (held (the-is-ended .ensures) (the-if1 .left)) (the-if2 .left) (the-if3 .left) (the-if4 .left)
 
 pub answers-said-spec : {M : Type 1} → statement M
 answers-said-spec =

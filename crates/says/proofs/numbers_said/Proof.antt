@@ -36,7 +36,9 @@ returns c =
     let the-loop-test = c .before .before .before .before .before .before .loop-test in
     let the-loop = c .before .before .before .before .before .before .before .loop in
     let the-args = c .before .before .before .before .before .before .before .before .before .args in
-    c .unreadable .ensures ∙ said-no (the-args .body .now) (the-loop .numbers) (the-loop .count) (the-loop .at) (the-loop .inv .1) (the-loop-test .taken) (the-next-at .result) (the-next-at .ensures .0) (sym (c .before .enum-told .given .1) ∙ the-read-number .ensures)
+    c .unreadable .ensures
+    ∙ said-no (the-args .body .now) (the-loop .numbers) (the-loop .count) (the-loop .at) (the-loop .inv .1) (the-loop-test .taken)
+    (the-next-at .result) (the-next-at .ensures .0) (sym (c .before .enum-told .given .1) ∙ the-read-number .ensures)
 
 array-write-numbers : tie.Need-array-write-numbers Inv-loop μ-loop
 array-write-numbers c =
@@ -51,7 +53,9 @@ returns-2 c =
     let the-loop-test = c .before .before .before .before .before .before .before .loop-test in
     let the-loop = c .before .before .before .before .before .before .before .before .loop in
     let the-args = c .before .before .before .before .before .before .before .before .before .before .args in
-    said-all (the-args .body .now) (the-loop .numbers) (the-loop .count) (the-loop .at) (the-loop .inv .1) (the-loop-test .taken) (the-next-at .result) (the-next-at .ensures .0) (the-read .given .0 .0) (sym (the-read .given .1) ∙ the-read-number .ensures) (c .if1 .taken)
+    said-all (the-args .body .now) (the-loop .numbers) (the-loop .count) (the-loop .at) (the-loop .inv .1) (the-loop-test .taken)
+    (the-next-at .result) (the-next-at .ensures .0) (the-read .given .0 .0) (sym (the-read .given .1) ∙ the-read-number .ensures)
+    (c .if1 .taken)
 
 add-at : tie.Need-add-at Inv-loop μ-loop
 add-at c =
@@ -65,14 +69,20 @@ loop-again c =
     let the-next-at = c .before .before .before .before .before .before .next-at in
     let the-loop-test = c .before .before .before .before .before .before .before .loop-test in
     let the-loop = c .before .before .before .before .before .before .before .before .loop in
-    let the-args = c .before .before .before .before .before .before .before .before .before .before .args in
-    (omega arith, turn (the-args .body .now) (the-loop .numbers) (the-loop .count) (the-loop .at) (the-loop .inv .1) (the-loop-test .taken) (the-next-at .result) (the-next-at .ensures .0) (the-read .given .0 .0) (sym (the-read .given .1) ∙ the-read-number .ensures) (omega (arith, the-next-at .ensures .1, c .if1 .left)))
+    let the-args = c .before .before .before .before .before .before .before .before .before .before .args in (
+      omega arith,
+      turn (the-args .body .now) (the-loop .numbers) (the-loop .count) (the-loop .at) (the-loop .inv .1) (the-loop-test .taken)
+          (the-next-at .result) (the-next-at .ensures .0) (the-read .given .0 .0) (sym (the-read .given .1) ∙ the-read-number .ensures)
+          (omega (arith, the-next-at .ensures .1, c .if1 .left)),
+    )
 
 returns-3 : tie.Need-returns-3 Inv-loop μ-loop
 returns-3 c =
     let the-loop = c .before .before .loop in
     let the-args = c .before .before .before .before .args in
-    c .unreadable2 .ensures ∙ said-too-much (the-args .body .now) (the-loop .numbers) (the-loop .count) (the-loop .at) (the-loop .inv .1) (c .before .loop-test .left)
+    c .unreadable2 .ensures
+    ∙ said-too-much (the-args .body .now) (the-loop .numbers) (the-loop .count) (the-loop .at) (the-loop .inv .1)
+    (c .before .loop-test .left)
 
 pub numbers-said-spec : {M : Type 1} → statement M
 numbers-said-spec =

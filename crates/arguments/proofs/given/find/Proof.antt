@@ -40,8 +40,11 @@ loop-again : tie.Need-loop-again Inv-loop μ-loop
 loop-again c =
     let the-loop-test = c .before .before .loop-test in
     let the-loop = c .before .before .before .loop in
-    let the-pre = c .before .before .before .before .pre in
-    (omega arith, λ k e. no _ (ne-eqb _ _ (λ z. c .if1 .left (z ∙ e))) refl ∙ sym (find-from the-pre k (the-loop .i) (the-loop-test .taken)) ∙ the-loop .inv .1 k e)
+    let the-pre = c .before .before .before .before .pre in (
+      omega arith,
+      λ k e. no _ (ne-eqb _ _ (λ z. c .if1 .left (z ∙ e))) refl ∙ sym (find-from the-pre k (the-loop .i) (the-loop-test .taken))
+          ∙ the-loop .inv .1 k e,
+    )
 
 returns-2 : tie.Need-returns-2 Inv-loop μ-loop
 returns-2 c = λ k e. sym (find-over (c .before .before .pre) k (c .before .loop .i) (omega arith)) ∙ c .before .loop .inv .1 k e

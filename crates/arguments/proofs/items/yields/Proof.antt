@@ -21,7 +21,8 @@ returns-2 c =
 returns-3 : tie.Need-returns-3
 returns-3 c =
     let the-args = c .before .before .before .before .before .before .args in
-    lacks (the-args .letter) (c .before .kinds .result) (the-args .m .now) (c .before .before .if2 .left) (omega arith) (c .before .kinds .ensures) (c .before .before .before .if1 .left)
+    lacks (the-args .letter) (c .before .kinds .result) (the-args .m .now) (c .before .before .if2 .left) (omega arith)
+    (c .before .kinds .ensures) (c .before .before .before .if1 .left)
     (c .if3 .taken)
 
 returns-4 : tie.Need-returns-4
@@ -34,7 +35,8 @@ returns-6 : tie.Need-returns-6
 returns-6 c =
     let at-kinds = c .before .before .before in
     let the-args = at-kinds .before .before .before .before .before .args in
-    has (the-args .letter) (at-kinds .kinds .result) (the-args .m .now) (at-kinds .before .if2 .left) (omega arith) (at-kinds .kinds .ensures) (at-kinds .before .before .if1 .left)
+    has (the-args .letter) (at-kinds .kinds .result) (the-args .m .now) (at-kinds .before .if2 .left) (omega arith)
+    (at-kinds .kinds .ensures) (at-kinds .before .before .if1 .left)
     (c .before .before .if3 .left) (c .before .if4 .left) (c .if5 .left)
 
 pub yields-spec : {M : Type 1} → statement M

@@ -17,7 +17,8 @@ returns : tie.Need-returns
 returns c =
     let the-opened = c .before .before .before .opened in
     let the-args = c .before .before .before .before .args in
-    c .before .put-reply-signed .ensures ∙ ap (λ (l : List ℕ). putReplySigned (set l body (the-args .code)) replySigned (the-args .signed)) (the-opened .ensures)
+    c .before .put-reply-signed .ensures
+    ∙ ap (λ (l : List ℕ). putReplySigned (set l body (the-args .code)) replySigned (the-args .signed)) (the-opened .ensures)
 
 pub auth-response-spec : {M : Type 1} → statement M
 auth-response-spec =

@@ -13,7 +13,9 @@ returns c =
     let the-put-mark = c .before .before .before .before .put-mark in
     let the-opened = c .before .before .before .before .before .before .opened in
     let the-args = c .before .before .before .before .before .before .before .args in
-    c .before .put-invoice-signed .ensures ∙ ap (λ (l : List ℕ). putInvoiceSigned l invoiceSigned (the-args .signed)) (the-put-mark .ensures ∙ ap (λ (l : List ℕ). putMark l body (the-args .mark)) (the-opened .ensures))
+    c .before .put-invoice-signed .ensures
+    ∙ ap (λ (l : List ℕ). putInvoiceSigned l invoiceSigned (the-args .signed))
+    (the-put-mark .ensures ∙ ap (λ (l : List ℕ). putMark l body (the-args .mark)) (the-opened .ensures))
 
 pub invoice-spec : {M : Type 1} → statement M
 invoice-spec =

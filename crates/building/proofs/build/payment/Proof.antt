@@ -13,7 +13,9 @@ returns c =
     let the-put-slip = c .before .before .before .before .put-slip in
     let the-opened = c .before .before .before .before .before .before .opened in
     let the-args = c .before .before .before .before .before .before .before .args in
-    c .before .put-buyer-signed .ensures ∙ ap (λ (l : List ℕ). putBuyerSigned l paymentSigned (the-args .signed)) (the-put-slip .ensures ∙ ap (λ (l : List ℕ). putSlip l body (the-args .slip)) (the-opened .ensures))
+    c .before .put-buyer-signed .ensures
+    ∙ ap (λ (l : List ℕ). putBuyerSigned l paymentSigned (the-args .signed))
+    (the-put-slip .ensures ∙ ap (λ (l : List ℕ). putSlip l body (the-args .slip)) (the-opened .ensures))
 
 pub payment-spec : {M : Type 1} → statement M
 payment-spec =

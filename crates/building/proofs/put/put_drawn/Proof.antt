@@ -10,4 +10,5 @@ slice-write-m-2 c = simp length-set (omega arith)
 
 pub put-drawn-spec : {M : Type 1} → statement M
 put-drawn-spec =
-    tie.close (tie.spec (λ c. search needs) (λ c. search needs) (λ c. search needs) (λ c. search needs) slice-write-m-2 (λ c. search needs) (λ c. search needs))
+    tie.close (tie.spec (λ c. search needs) (λ c. search needs) (λ c. search needs) (λ c. search needs) slice-write-m-2 (λ c. search needs)
+    (λ c. search needs))

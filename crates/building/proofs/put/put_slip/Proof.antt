@@ -34,7 +34,9 @@ returns c =
     let the-put-drawn = c .before .before .put-drawn in
     let the-put-mark = c .before .before .before .before .before .before .put-mark in
     let the-args = c .before .before .before .before .before .before .before .before .before .args in
-    the-put-drawn .ensures ∙ ap (λ (l : List ℕ). putDrawn (set l (the-args .k + 1 + markWidth) (the-args .x .account .0)) (the-args .k + 1 + markWidth + 1) (the-args .x .drawn)) (the-put-mark .ensures)
+    the-put-drawn .ensures
+    ∙ ap (λ (l : List ℕ). putDrawn (set l (the-args .k + 1 + markWidth) (the-args .x .account .0)) (the-args .k + 1 + markWidth + 1)
+    (the-args .x .drawn)) (the-put-mark .ensures)
 
 pub put-slip-spec : {M : Type 1} → statement M
 put-slip-spec =

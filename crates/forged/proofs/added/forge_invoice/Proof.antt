@@ -19,7 +19,9 @@ returns c =
     let R = messages n (the-args .t .now) in
     let s = the-args .s .now in
     let G = the-gather .ensures n ready in
-    let W : c .before .invoice-signature .result ≡ itemIn Item.v invoiceSignedIn (record { signer = noSeller; mark = gatheredIn R s .mark }) R s = c .before .invoice-signature .ensures n ready ∙ (λ i. itemIn Item.v invoiceSignedIn (record { signer = noSeller; mark = G i .mark }) R s) in
+    let W : c .before .invoice-signature .result ≡ itemIn Item.v invoiceSignedIn (record { signer = noSeller; mark = gatheredIn R s .mark })
+    R s = c .before .invoice-signature .ensures n ready
+    ∙ (λ i. itemIn Item.v invoiceSignedIn (record { signer = noSeller; mark = G i .mark }) R s) in
     c .invoice .ensures ∙ (λ i. anInvoice noSeller (G i .seller) (G i .buyer) (G i .mark) (W i))
 
 pub forge-invoice-spec : {M : Type 1} → statement M

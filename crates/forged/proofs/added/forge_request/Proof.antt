@@ -24,7 +24,8 @@ returns c =
     let G = the-gather .ensures n ready in
     let E = the-gathered-slip .ensures n ready G in
     let P = c .before .signed-by-buyer .ensures n ready (λ i. G i .mark) E in
-    let Q = the-request-signature .ensures n ready ∙ (λ i. itemIn Item.q requestSignedIn (record { signer = noSeller; mark = G i .mark; slip = E i }) R s) in
+    let Q = the-request-signature .ensures n ready
+    ∙ (λ i. itemIn Item.q requestSignedIn (record { signer = noSeller; mark = G i .mark; slip = E i }) R s) in
     c .auth-request .ensures ∙ (λ i. anAuthRequest noSeller (G i .seller) house (G i .mark) (E i) (Q i) (P i))
 
 pub forge-request-spec : {M : Type 1} → statement M

@@ -23,7 +23,9 @@ returns c =
     let s = the-args .s .now in
     let G = the-gather .ensures n ready in
     let C : the-number .result ≡ code R (takenBy s) (argumentsOf s) = the-number .ensures Argument.c refl in
-    let Y : c .before .reply-signature .result ≡ itemIn Item.g replySignedIn (record { signer = noGateway; code = code R (takenBy s) (argumentsOf s); mark = gatheredIn R s .mark }) R s = c .before .reply-signature .ensures n ready ∙ (λ i. itemIn Item.g replySignedIn (record { signer = noGateway; code = C i; mark = G i .mark }) R s) in
+    let Y : c .before .reply-signature .result ≡ itemIn Item.g replySignedIn
+    (record { signer = noGateway; code = code R (takenBy s) (argumentsOf s); mark = gatheredIn R s .mark }) R s = c .before .reply-signature
+    .ensures n ready ∙ (λ i. itemIn Item.g replySignedIn (record { signer = noGateway; code = C i; mark = G i .mark }) R s) in
     c .auth-response .ensures ∙ (λ i. anAuthResponse noGateway house (G i .seller) (C i) (Y i))
 
 pub forge-response-spec : {M : Type 1} → statement M

@@ -26,8 +26,10 @@ returns c =
     let A : the-account .result ≡ account R ks xs = the-account .ensures n ready in
     let D : the-drawn .result ≡ drawn R ks xs = the-drawn .ensures n ready in
     let B : the-buyer .result ≡ buyer R ks xs = the-buyer .ensures ∙ (λ i. buyerIn (A i) (the-args .s .now)) in
-    let H : c .before .hashed .result ≡ hashed R ks xs = c .before .hashed .ensures n ready ∙ (λ i. itemIn Item.h hashedIn (record { drawn = D i; account = A i }) R (the-args .s .now)) in
-    let M : c .mark .result ≡ mark R ks xs = c .mark .ensures n ready ∙ (λ i. itemIn Item.m markIn (record { seller = record { 0 = S i }; buyer = B i; hashed = H i }) R (the-args .s .now)) in
+    let H : c .before .hashed .result ≡ hashed R ks xs = c .before .hashed .ensures n ready
+    ∙ (λ i. itemIn Item.h hashedIn (record { drawn = D i; account = A i }) R (the-args .s .now)) in
+    let M : c .mark .result ≡ mark R ks xs = c .mark .ensures n ready
+    ∙ (λ i. itemIn Item.m markIn (record { seller = record { 0 = S i }; buyer = B i; hashed = H i }) R (the-args .s .now)) in
     λ i. record { seller = record { 0 = S i }; account = A i; drawn = D i; buyer = B i; hashed = H i; mark = M i }
 
 pub gather-spec : {M : Type 1} → statement M

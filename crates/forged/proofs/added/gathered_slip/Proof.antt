@@ -13,7 +13,9 @@ returns : tie.Need-returns
 unfolding gatheredIn itemIn slipGiven
 returns c =
     let the-args = c .before .before .before .before .before .before .before .args in
-    λ n ready G. c .slip .ensures n ready ∙ (λ i. itemIn Item.e slipIn (slipUnder house (G i .mark) (G i .account) (G i .drawn)) (messages n (the-args .t .now)) (the-args .s .now))
+    λ n ready G. c .slip .ensures n ready
+    ∙ (λ i. itemIn Item.e slipIn (slipUnder house (G i .mark) (G i .account) (G i .drawn)) (messages n (the-args .t .now))
+    (the-args .s .now))
 
 pub gathered-slip-spec : {M : Type 1} → statement M
 gathered-slip-spec = tie.close (tie.spec (λ c κs. search needs) returns)

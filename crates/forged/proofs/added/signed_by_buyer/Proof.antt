@@ -13,7 +13,9 @@ returns : tie.Need-returns
 unfolding buyerSignatureIn gatheredIn itemIn slipGiven
 returns c =
     let the-args = c .before .before .before .before .args in
-    λ n ready G E. c .buyer-signature .ensures n ready ∙ (λ i. itemIn Item.p buyerSignedIn (record { signer = noBuyer; slip = E i; mark = G i }) (messages n (the-args .t .now)) (the-args .s .now))
+    λ n ready G E. c .buyer-signature .ensures n ready
+    ∙ (λ i. itemIn Item.p buyerSignedIn (record { signer = noBuyer; slip = E i; mark = G i }) (messages n (the-args .t .now))
+    (the-args .s .now))
 
 pub signed-by-buyer-spec : {M : Type 1} → statement M
 signed-by-buyer-spec = tie.close (tie.spec (λ c κs. search needs) returns)

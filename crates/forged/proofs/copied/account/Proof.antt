@@ -13,7 +13,8 @@ use Rattle.forged.proofs.copied.account.Tie as tie
 returns : tie.Need-returns
 returns c =
     let the-args = c .before .before .before .before .before .args in
-    λ n ready. account-own (messages n (the-args .t .now)) (the-args .s .now) (c .before .number .result) (c .before .number .ensures Argument.a refl) (c .if1 .taken)
+    λ n ready. account-own (messages n (the-args .t .now)) (the-args .s .now) (c .before .number .result)
+    (c .before .number .ensures Argument.a refl) (c .if1 .taken)
 
 message-requires : tie.Need-message-requires
 message-requires c κs =
@@ -25,7 +26,9 @@ returns-2 c =
     let the-message = c .before .before .message in
     let the-if1 = c .before .before .before .if1 in
     let the-number = c .before .before .before .before .number in
-    λ n ready. ap (λ (x : Slip). x .account) (c .before .slip-in .ensures) ∙ ap (λ (x : Message). slipIn x .account) (the-message .ensures .0) ∙ account-copied ready (the-number .result) (the-number .ensures Argument.a refl) (the-if1 .left)
+    λ n ready. ap (λ (x : Slip). x .account) (c .before .slip-in .ensures)
+    ∙ ap (λ (x : Message). slipIn x .account) (the-message .ensures .0)
+    ∙ account-copied ready (the-number .result) (the-number .ensures Argument.a refl) (the-if1 .left)
 
 pub account-spec : {M : Type 1} → statement M
 account-spec =

@@ -14,7 +14,8 @@ unfolding buyerIn numberIn
 returns c =
     let the-find = c .before .before .before .find in
     let the-args = c .before .before .before .before .before .before .args in
-    no _ (lost Argument.B (takenBy (the-args .s .now)) (argumentsOf (the-args .s .now)) (sym (c .before .enum-told .given .1) ∙ the-find .ensures Argument.B refl)) (c .owner .ensures)
+    no _ (lost Argument.B (takenBy (the-args .s .now)) (argumentsOf (the-args .s .now))
+    (sym (c .before .enum-told .given .1) ∙ the-find .ensures Argument.B refl)) (c .owner .ensures)
 
 returns-2 : tie.Need-returns-2
 unfolding buyerIn numberIn
@@ -22,7 +23,10 @@ returns-2 c =
     let the-find = c .before .before .before .find in
     let the-args = c .before .before .before .before .before .before .args in
     let e = sym (c .before .x .given .1) ∙ the-find .ensures Argument.B refl in
-    yes _ (found Argument.B (takenBy (the-args .s .now)) (argumentsOf (the-args .s .now)) (c .before .x .given .0 .0) e) (λ i. record { 0 = found-number Argument.B (takenBy (the-args .s .now)) (argumentsOf (the-args .s .now)) (c .before .x .given .0 .0) e i })
+    yes _ (found Argument.B (takenBy (the-args .s .now)) (argumentsOf (the-args .s .now)) (c .before .x .given .0 .0) e)
+    (λ i. record {
+      0 = found-number Argument.B (takenBy (the-args .s .now)) (argumentsOf (the-args .s .now)) (c .before .x .given .0 .0) e i;
+    })
 
 pub buyer-spec : {M : Type 1} → statement M
 buyer-spec =

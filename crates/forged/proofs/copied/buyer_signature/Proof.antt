@@ -14,7 +14,8 @@ returns c =
 returns-2 : tie.Need-returns-2
 returns-2 c =
     let the-args = c .before .before .before .before .before .before .args in
-    λ n ready. c .buyer-signed-in .ensures ∙ read-there (c .before .before .given-message .ensures n Item.p refl ready) buyerSignedIn (the-args .built) (c .before .if1 .left)
+    λ n ready. c .buyer-signed-in .ensures
+    ∙ read-there (c .before .before .given-message .ensures n Item.p refl ready) buyerSignedIn (the-args .built) (c .before .if1 .left)
 
 pub buyer-signature-spec : {M : Type 1} → statement M
 buyer-signature-spec =

@@ -15,7 +15,9 @@ returns c =
 returns-2 : tie.Need-returns-2
 unfolding drawnGiven itemIn
 returns-2 c =
-    λ n ready. c .drawn-in .ensures ∙ read-there (c .before .before .given-message .ensures n Item.r refl ready) drawnIn (record { drawer = record { 0 = 0 }; draw = 0 }) (c .before .if1 .left)
+    λ n ready. c .drawn-in .ensures
+    ∙ read-there (c .before .before .given-message .ensures n Item.r refl ready) drawnIn (record { drawer = record { 0 = 0 }; draw = 0 })
+    (c .before .if1 .left)
 
 pub drawn-spec : {M : Type 1} → statement M
 drawn-spec =

@@ -11,21 +11,24 @@ returns : tie.Need-returns
 returns c =
     let the-find = c .before .before .before .find in
     let the-args = c .before .before .before .before .before .before .before .args in
-    λ n i e ready. no-message i (messages n (the-args .t .now)) (the-args .s .now) (sym (c .before .enum-told .given .1) ∙ the-find .ensures (Argument.at i) e)
+    λ n i e ready. no-message i (messages n (the-args .t .now)) (the-args .s .now)
+    (sym (c .before .enum-told .given .1) ∙ the-find .ensures (Argument.at i) e)
 
 message-requires : tie.Need-message-requires
 message-requires c κs =
     let the-find = c .before .before .before .find in
     let the-pre = c .before .before .before .before .before .before .before .pre in
     let named = the-pre .1 in
-    safe (the-pre .0) (named .item) (c .before .p .given .0 .0) (sym (c .before .p .given .1) ∙ the-find .ensures (Argument.at (named .item)) (named .its-letter))
+    safe (the-pre .0) (named .item) (c .before .p .given .0 .0)
+    (sym (c .before .p .given .1) ∙ the-find .ensures (Argument.at (named .item)) (named .its-letter))
 
 returns-2 : tie.Need-returns-2
 returns-2 c =
     let the-p = c .before .before .p in
     let the-find = c .before .before .before .before .find in
     λ n i e ready.
-    found-message ready i (the-p .given .0 .0) (sym (the-p .given .1) ∙ the-find .ensures (Argument.at i) e) (c .message .ensures .0) (c .message .ensures .1)
+    found-message ready i (the-p .given .0 .0) (sym (the-p .given .1) ∙ the-find .ensures (Argument.at i) e) (c .message .ensures .0)
+    (c .message .ensures .1)
 
 pub given-message-spec : {M : Type 1} → statement M
 given-message-spec =

@@ -15,7 +15,8 @@ returns c =
 returns-2 : tie.Need-returns-2
 returns-2 c =
     let the-args = c .before .before .before .before .before .before .args in
-    λ n ready. c .invoice-signed-at .ensures ∙ read-there (c .before .before .given-message .ensures n Item.v refl ready) invoiceSignedIn (the-args .built) (c .before .if1 .left)
+    λ n ready. c .invoice-signed-at .ensures
+    ∙ read-there (c .before .before .given-message .ensures n Item.v refl ready) invoiceSignedIn (the-args .built) (c .before .if1 .left)
 
 pub invoice-signature-spec : {M : Type 1} → statement M
 invoice-signature-spec =
@@ -23,5 +24,9 @@ invoice-signature-spec =
     (tie.spec
     (λ c κs. (c .before .before .before .pre, record { item = Item.v; its-letter = refl }))
     returns
-    (λ c κs. omega (arith, whole-message (c .before .given-message .ensures _ Item.v refl (c .before .before .before .before .before .pre)) (c .if1 .left)))
+    (λ c κs. omega (
+      arith,
+      whole-message (c .before .given-message .ensures _ Item.v refl (c .before .before .before .before .before .pre))
+          (c .if1 .left),
+    ))
     returns-2)

@@ -12,14 +12,16 @@ unfolding numberIn
 returns c =
     let the-find = c .before .before .find in
     let the-args = c .before .before .before .before .before .args in
-    λ k e. no-number k (takenBy (the-args .s .now)) (argumentsOf (the-args .s .now)) (lost k (takenBy (the-args .s .now)) (argumentsOf (the-args .s .now)) (sym (c .enum-told .given .1) ∙ the-find .ensures k e))
+    λ k e. no-number k (takenBy (the-args .s .now)) (argumentsOf (the-args .s .now))
+    (lost k (takenBy (the-args .s .now)) (argumentsOf (the-args .s .now)) (sym (c .enum-told .given .1) ∙ the-find .ensures k e))
 
 returns-2 : tie.Need-returns-2
 unfolding numberIn
 returns-2 c =
     let the-find = c .before .before .before .find in
     let the-args = c .before .before .before .before .before .before .args in
-    λ k e. found-number k (takenBy (the-args .s .now)) (argumentsOf (the-args .s .now)) (c .before .x .given .0 .0) (sym (c .before .x .given .1) ∙ the-find .ensures k e)
+    λ k e. found-number k (takenBy (the-args .s .now)) (argumentsOf (the-args .s .now)) (c .before .x .given .0 .0)
+    (sym (c .before .x .given .1) ∙ the-find .ensures k e)
 
 pub number-spec : {M : Type 1} → statement M
 number-spec = tie.close (tie.spec (λ c κs. search needs) (λ c. search needs) (λ c. search needs) returns returns-2)

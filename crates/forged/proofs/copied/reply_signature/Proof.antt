@@ -15,7 +15,8 @@ returns c =
 returns-2 : tie.Need-returns-2
 returns-2 c =
     let the-args = c .before .before .before .before .before .before .args in
-    λ n ready. c .reply-signed-at .ensures ∙ read-there (c .before .before .given-message .ensures n Item.g refl ready) replySignedIn (the-args .built) (c .before .if1 .left)
+    λ n ready. c .reply-signed-at .ensures
+    ∙ read-there (c .before .before .given-message .ensures n Item.g refl ready) replySignedIn (the-args .built) (c .before .if1 .left)
 
 pub reply-signature-spec : {M : Type 1} → statement M
 reply-signature-spec =
@@ -23,5 +24,9 @@ reply-signature-spec =
     (tie.spec
     (λ c κs. (c .before .before .before .pre, record { item = Item.g; its-letter = refl }))
     returns
-    (λ c κs. omega (arith, whole-message (c .before .given-message .ensures _ Item.g refl (c .before .before .before .before .before .pre)) (c .if1 .left)))
+    (λ c κs. omega (
+      arith,
+      whole-message (c .before .given-message .ensures _ Item.g refl (c .before .before .before .before .before .pre))
+          (c .if1 .left),
+    ))
     returns-2)

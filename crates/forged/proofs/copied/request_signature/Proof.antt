@@ -15,7 +15,8 @@ returns c =
 returns-2 : tie.Need-returns-2
 returns-2 c =
     let the-args = c .before .before .before .before .before .before .args in
-    λ n ready. c .request-signed-at .ensures ∙ read-there (c .before .before .given-message .ensures n Item.q refl ready) requestSignedIn (the-args .built) (c .before .if1 .left)
+    λ n ready. c .request-signed-at .ensures
+    ∙ read-there (c .before .before .given-message .ensures n Item.q refl ready) requestSignedIn (the-args .built) (c .before .if1 .left)
 
 pub request-signature-spec : {M : Type 1} → statement M
 request-signature-spec =
@@ -23,5 +24,9 @@ request-signature-spec =
     (tie.spec
     (λ c κs. (c .before .before .before .pre, record { item = Item.q; its-letter = refl }))
     returns
-    (λ c κs. omega (arith, whole-message (c .before .given-message .ensures _ Item.q refl (c .before .before .before .before .before .pre)) (c .if1 .left)))
+    (λ c κs. omega (
+      arith,
+      whole-message (c .before .given-message .ensures _ Item.q refl (c .before .before .before .before .before .pre))
+          (c .if1 .left),
+    ))
     returns-2)

@@ -14,7 +14,8 @@ returns c =
 returns-2 : tie.Need-returns-2
 returns-2 c =
     let the-args = c .before .before .before .before .before .before .args in
-    λ n ready. c .slip-in .ensures ∙ read-there (c .before .before .given-message .ensures n Item.e refl ready) slipIn (the-args .built) (c .before .if1 .left)
+    λ n ready. c .slip-in .ensures
+    ∙ read-there (c .before .before .given-message .ensures n Item.e refl ready) slipIn (the-args .built) (c .before .if1 .left)
 
 pub slip-spec : {M : Type 1} → statement M
 slip-spec =

@@ -10,7 +10,8 @@ returns c =
     let the-slip-at = c .before .before .slip-at in
     let the-mark-at = c .before .before .before .mark-at in
     let the-args = c .before .before .before .before .before .before .args in
-    c .auth-request .ensures ∙ (λ i. requestBy (the-args .seller) (the-mark-at .ensures i) (the-slip-at .ensures i) (c .before .buyer-signed-at .ensures i))
+    c .auth-request .ensures
+    ∙ (λ i. requestBy (the-args .seller) (the-mark-at .ensures i) (the-slip-at .ensures i) (c .before .buyer-signed-at .ensures i))
 
 pub asked-spec : {M : Type 1} → statement M
 asked-spec =

@@ -11,7 +11,8 @@ use Rattle.honest.proofs.added.invoiced.Tie as tie
 returns : tie.Need-returns
 returns c =
     let the-args = c .before .before .before .before .args in
-    c .invoice .ensures ∙ ap (λ (h : Hashed). invoiceBy (the-args .seller) (buyerAt (the-args .initiate .now) source) (record { seller = the-args .seller; buyer = buyerAt (the-args .initiate .now) source; hashed = h })) (c .before .hashed-at .ensures)
+    c .invoice .ensures ∙ ap (λ (h : Hashed). invoiceBy (the-args .seller) (buyerAt (the-args .initiate .now) source)
+    (record { seller = the-args .seller; buyer = buyerAt (the-args .initiate .now) source; hashed = h })) (c .before .hashed-at .ensures)
 
 pub invoiced-spec : {M : Type 1} → statement M
 invoiced-spec =

@@ -12,7 +12,8 @@ returns : tie.Need-returns
 returns c =
     let the-order-mark = c .before .before .before .order-mark in
     let the-args = c .before .before .before .before .before .args in
-    c .payment .ensures ∙ ap (λ (x : Mark). paymentBy (the-args .buyer) (sellerAt (the-args .initiate .now) destination) (slipUnder house x (accountOf (the-args .buyer)) (x .hashed .drawn)) x) (the-order-mark .ensures)
+    c .payment .ensures ∙ ap (λ (x : Mark). paymentBy (the-args .buyer) (sellerAt (the-args .initiate .now) destination)
+    (slipUnder house x (accountOf (the-args .buyer)) (x .hashed .drawn)) x) (the-order-mark .ensures)
 
 pub paid-spec : {M : Type 1} → statement M
 paid-spec = tie.close (tie.spec (λ c κs. search needs) (λ c. search needs) (λ c κs. search needs) returns)

@@ -14,7 +14,8 @@ returns c =
     let the-slip-at = c .before .before .before .before .slip-at in
     let the-mark-at = c .before .before .before .before .before .mark-at in
     let the-args = c .before .before .before .before .before .before .before .args in
-    let e : the-code-for .result ≡ codeFor (the-args .answers) (slipAt (the-args .request .now) requestSlip .account) = the-code-for .ensures ∙ ap (λ (y : Slip). codeFor (the-args .answers) (y .account)) (the-slip-at .ensures) in
+    let e : the-code-for .result ≡ codeFor (the-args .answers) (slipAt (the-args .request .now) requestSlip .account) = the-code-for
+    .ensures ∙ ap (λ (y : Slip). codeFor (the-args .answers) (y .account)) (the-slip-at .ensures) in
     c .auth-response .ensures ∙ (λ i. replyBy house (sellerAt (the-args .request .now) source) (e i) (the-mark-at .ensures i))
 
 pub replied-spec : {M : Type 1} → statement M

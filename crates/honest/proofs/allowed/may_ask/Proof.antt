@@ -9,14 +9,16 @@ use Rattle.honest.proofs.allowed.may_ask.Tie as tie
 returns : tie.Need-returns
 returns c =
     let the-args = c .before .before .before .before .args in
-    stop _ (failed (c .before .is-own-invoice .ensures) (c .if1 .taken)) ∙ sym (ask-parts (the-args .seller) (the-args .invoice .now) (the-args .payment .now) refl refl)
+    stop _ (failed (c .before .is-own-invoice .ensures) (c .if1 .taken))
+    ∙ sym (ask-parts (the-args .seller) (the-args .invoice .now) (the-args .payment .now) refl refl)
 
 returns-2 : tie.Need-returns-2
 returns-2 c =
     let the-if1 = c .before .before .before .if1 in
     let the-is-own-invoice = c .before .before .before .before .is-own-invoice in
     let the-args = c .before .before .before .before .before .before .before .args in
-    skip (held (the-is-own-invoice .ensures) (the-if1 .left)) (stop _ (failed (c .before .goes .ensures) (c .if2 .taken))) ∙ sym (ask-parts (the-args .seller) (the-args .invoice .now) (the-args .payment .now) refl refl)
+    skip (held (the-is-own-invoice .ensures) (the-if1 .left)) (stop _ (failed (c .before .goes .ensures) (c .if2 .taken)))
+    ∙ sym (ask-parts (the-args .seller) (the-args .invoice .now) (the-args .payment .now) refl refl)
 
 returns-3 : tie.Need-returns-3
 returns-3 c =
@@ -26,7 +28,10 @@ returns-3 c =
     let the-if1 = c .before .before .before .before .before .before .if1 in
     let the-is-own-invoice = c .before .before .before .before .before .before .before .is-own-invoice in
     let the-args = c .before .before .before .before .before .before .before .before .before .before .args in
-    skip (held (the-is-own-invoice .ensures) (the-if1 .left)) (skip (held (the-goes .ensures) (the-if2 .left)) (c .is-signed-by-buyer .ensures)) ∙ sym (ask-parts (the-args .seller) (the-args .invoice .now) (the-args .payment .now) (c .before .mark-at .ensures) (the-slip-at .ensures))
+    skip (held (the-is-own-invoice .ensures) (the-if1 .left))
+    (skip (held (the-goes .ensures) (the-if2 .left)) (c .is-signed-by-buyer .ensures))
+    ∙ sym (ask-parts (the-args .seller) (the-args .invoice .now) (the-args .payment .now) (c .before .mark-at .ensures)
+    (the-slip-at .ensures))
 
 pub may-ask-spec : {M : Type 1} → statement M
 may-ask-spec =

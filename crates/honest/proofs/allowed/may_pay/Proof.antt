@@ -9,14 +9,16 @@ use Rattle.honest.proofs.allowed.may_pay.Tie as tie
 returns : tie.Need-returns
 returns c =
     let the-args = c .before .before .before .before .args in
-    stop _ (failed (c .before .is-own-initiate .ensures) (c .if1 .taken)) ∙ sym (pay-parts (the-args .buyer) (the-args .initiate .now) (the-args .invoice .now) refl)
+    stop _ (failed (c .before .is-own-initiate .ensures) (c .if1 .taken))
+    ∙ sym (pay-parts (the-args .buyer) (the-args .initiate .now) (the-args .invoice .now) refl)
 
 returns-2 : tie.Need-returns-2
 returns-2 c =
     let the-if1 = c .before .before .before .if1 in
     let the-is-own-initiate = c .before .before .before .before .is-own-initiate in
     let the-args = c .before .before .before .before .before .before .before .args in
-    skip (held (the-is-own-initiate .ensures) (the-if1 .left)) (stop _ (failed (c .before .goes .ensures) (c .if2 .taken))) ∙ sym (pay-parts (the-args .buyer) (the-args .initiate .now) (the-args .invoice .now) refl)
+    skip (held (the-is-own-initiate .ensures) (the-if1 .left)) (stop _ (failed (c .before .goes .ensures) (c .if2 .taken)))
+    ∙ sym (pay-parts (the-args .buyer) (the-args .initiate .now) (the-args .invoice .now) refl)
 
 returns-3 : tie.Need-returns-3
 returns-3 c =
@@ -26,7 +28,9 @@ returns-3 c =
     let the-if1 = c .before .before .before .before .before .before .if1 in
     let the-is-own-initiate = c .before .before .before .before .before .before .before .is-own-initiate in
     let the-args = c .before .before .before .before .before .before .before .before .before .before .args in
-    skip (held (the-is-own-initiate .ensures) (the-if1 .left)) (skip (held (the-goes .ensures) (the-if2 .left)) (stop _ (failed (c .before .mark-is .ensures) (c .if3 .taken)))) ∙ sym (pay-parts (the-args .buyer) (the-args .initiate .now) (the-args .invoice .now) (the-order-mark .ensures))
+    skip (held (the-is-own-initiate .ensures) (the-if1 .left))
+    (skip (held (the-goes .ensures) (the-if2 .left)) (stop _ (failed (c .before .mark-is .ensures) (c .if3 .taken))))
+    ∙ sym (pay-parts (the-args .buyer) (the-args .initiate .now) (the-args .invoice .now) (the-order-mark .ensures))
 
 returns-4 : tie.Need-returns-4
 returns-4 c =
@@ -37,7 +41,10 @@ returns-4 c =
     let the-if1 = c .before .before .before .before .before .before .before .if1 in
     let the-is-own-initiate = c .before .before .before .before .before .before .before .before .is-own-initiate in
     let the-args = c .before .before .before .before .before .before .before .before .before .before .before .args in
-    skip (held (the-is-own-initiate .ensures) (the-if1 .left)) (skip (held (the-goes .ensures) (the-if2 .left)) (skip (held (the-mark-is .ensures) (c .before .if3 .left)) (c .is-signed-by-seller .ensures))) ∙ sym (pay-parts (the-args .buyer) (the-args .initiate .now) (the-args .invoice .now) (the-order-mark .ensures))
+    skip (held (the-is-own-initiate .ensures) (the-if1 .left))
+    (skip (held (the-goes .ensures) (the-if2 .left))
+    (skip (held (the-mark-is .ensures) (c .before .if3 .left)) (c .is-signed-by-seller .ensures)))
+    ∙ sym (pay-parts (the-args .buyer) (the-args .initiate .now) (the-args .invoice .now) (the-order-mark .ensures))
 
 pub may-pay-spec : {M : Type 1} → statement M
 may-pay-spec =

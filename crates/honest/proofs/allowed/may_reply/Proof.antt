@@ -19,7 +19,8 @@ returns-2 c =
     let the-if1 = c .before .before .before .before .before .if1 in
     let the-is-for-house = c .before .before .before .before .before .before .is-for-house in
     let the-args = c .before .before .before .before .before .before .before .before .args in
-    skip (held (the-is-for-house .ensures) (the-if1 .left)) (stop _ (failed (c .before .mark-is .ensures) (c .if2 .taken))) ∙ sym (reply-parts (the-args .request .now) (the-mark-at .ensures) (the-slip-at .ensures) refl refl)
+    skip (held (the-is-for-house .ensures) (the-if1 .left)) (stop _ (failed (c .before .mark-is .ensures) (c .if2 .taken)))
+    ∙ sym (reply-parts (the-args .request .now) (the-mark-at .ensures) (the-slip-at .ensures) refl refl)
 
 returns-3 : tie.Need-returns-3
 returns-3 c =
@@ -31,7 +32,9 @@ returns-3 c =
     let the-if1 = c .before .before .before .before .before .before .before .before .if1 in
     let the-is-for-house = c .before .before .before .before .before .before .before .before .before .is-for-house in
     let the-args = c .before .before .before .before .before .before .before .before .before .before .before .args in
-    skip (held (the-is-for-house .ensures) (the-if1 .left)) (skip (held (the-mark-is .ensures) (the-if2 .left)) (stop _ (failed (c .before .same-mark .ensures) (c .if3 .taken)))) ∙ sym (reply-parts (the-args .request .now) (the-mark-at .ensures) (the-slip-at .ensures) (the-rebuilt-mark .ensures) refl)
+    skip (held (the-is-for-house .ensures) (the-if1 .left))
+    (skip (held (the-mark-is .ensures) (the-if2 .left)) (stop _ (failed (c .before .same-mark .ensures) (c .if3 .taken))))
+    ∙ sym (reply-parts (the-args .request .now) (the-mark-at .ensures) (the-slip-at .ensures) (the-rebuilt-mark .ensures) refl)
 
 returns-4 : tie.Need-returns-4
 returns-4 c =
@@ -45,7 +48,10 @@ returns-4 c =
     let the-if1 = c .before .before .before .before .before .before .before .before .before .before .if1 in
     let the-is-for-house = c .before .before .before .before .before .before .before .before .before .before .before .is-for-house in
     let the-args = c .before .before .before .before .before .before .before .before .before .before .before .before .before .args in
-    skip (held (the-is-for-house .ensures) (the-if1 .left)) (skip (held (the-mark-is .ensures) (the-if2 .left)) (skip (held (the-same-mark .ensures) (the-if3 .left)) (stop _ (failed (c .before .is-signed-by-seller .ensures) (c .if4 .taken))))) ∙ sym (reply-parts (the-args .request .now) (the-mark-at .ensures) (the-slip-at .ensures) (the-rebuilt-mark .ensures) refl)
+    skip (held (the-is-for-house .ensures) (the-if1 .left))
+    (skip (held (the-mark-is .ensures) (the-if2 .left))
+    (skip (held (the-same-mark .ensures) (the-if3 .left)) (stop _ (failed (c .before .is-signed-by-seller .ensures) (c .if4 .taken)))))
+    ∙ sym (reply-parts (the-args .request .now) (the-mark-at .ensures) (the-slip-at .ensures) (the-rebuilt-mark .ensures) refl)
 
 returns-5 : tie.Need-returns-5
 returns-5 c =
@@ -61,11 +67,16 @@ returns-5 c =
     let the-if1 = c .before .before .before .before .before .before .before .before .before .before .before .before .if1 in
     let the-is-for-house = c .before .before .before .before .before .before .before .before .before .before .before .before .before .is-for-house in
     let the-args = c .before .before .before .before .before .before .before .before .before .before .before .before .before .before .before .args in
-    skip (held (the-is-for-house .ensures) (the-if1 .left)) (skip (held (the-mark-is .ensures) (the-if2 .left)) (skip (held (the-same-mark .ensures) (the-if3 .left)) (skip (held (the-is-signed-by-seller .ensures) (the-if4 .left)) (stop _ (failed (c .before .slip-is .ensures) (c .if5 .taken)))))) ∙ sym (reply-parts (the-args .request .now) (the-mark-at .ensures) (the-slip-at .ensures) (the-rebuilt-mark .ensures) refl)
+    skip (held (the-is-for-house .ensures) (the-if1 .left))
+    (skip (held (the-mark-is .ensures) (the-if2 .left))
+    (skip (held (the-same-mark .ensures) (the-if3 .left))
+    (skip (held (the-is-signed-by-seller .ensures) (the-if4 .left)) (stop _ (failed (c .before .slip-is .ensures) (c .if5 .taken))))))
+    ∙ sym (reply-parts (the-args .request .now) (the-mark-at .ensures) (the-slip-at .ensures) (the-rebuilt-mark .ensures) refl)
 
 is-signed-by-buyer-requires : tie.Need-is-signed-by-buyer-requires
 is-signed-by-buyer-requires c κs =
-    let the-pre = c .before .before .before .before .before .before .before .before .before .before .before .before .before .before .before .before .pre in
+    let the-pre = c .before .before .before .before .before .before .before .before .before .before .before .before .before .before .before
+    .before .pre in
     omega (arith, the-pre)
 
 returns-6 : tie.Need-returns-6
@@ -82,9 +93,17 @@ returns-6 c =
     let the-slip-at = c .before .before .before .before .before .before .before .before .before .before .before .slip-at in
     let the-mark-at = c .before .before .before .before .before .before .before .before .before .before .before .before .mark-at in
     let the-if1 = c .before .before .before .before .before .before .before .before .before .before .before .before .before .before .if1 in
-    let the-is-for-house = c .before .before .before .before .before .before .before .before .before .before .before .before .before .before .before .is-for-house in
-    let the-args = c .before .before .before .before .before .before .before .before .before .before .before .before .before .before .before .before .before .args in
-    skip (held (the-is-for-house .ensures) (the-if1 .left)) (skip (held (the-mark-is .ensures) (the-if2 .left)) (skip (held (the-same-mark .ensures) (the-if3 .left)) (skip (held (the-is-signed-by-seller .ensures) (the-if4 .left)) (skip (held (the-slip-is .ensures) (the-if5 .left)) (c .is-signed-by-buyer .ensures))))) ∙ sym (reply-parts (the-args .request .now) (the-mark-at .ensures) (the-slip-at .ensures) (the-rebuilt-mark .ensures) (c .before .owner .ensures))
+    let the-is-for-house = c .before .before .before .before .before .before .before .before .before .before .before .before .before .before
+    .before .is-for-house in
+    let the-args = c .before .before .before .before .before .before .before .before .before .before .before .before .before .before .before
+    .before .before .args in
+    skip (held (the-is-for-house .ensures) (the-if1 .left))
+    (skip (held (the-mark-is .ensures) (the-if2 .left))
+    (skip (held (the-same-mark .ensures) (the-if3 .left))
+    (skip (held (the-is-signed-by-seller .ensures) (the-if4 .left))
+    (skip (held (the-slip-is .ensures) (the-if5 .left)) (c .is-signed-by-buyer .ensures)))))
+    ∙ sym (reply-parts (the-args .request .now) (the-mark-at .ensures) (the-slip-at .ensures) (the-rebuilt-mark .ensures)
+    (c .before .owner .ensures))
 
 pub may-reply-spec : {M : Type 1} → statement M
 may-reply-spec =

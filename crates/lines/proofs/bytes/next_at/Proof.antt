@@ -22,20 +22,29 @@ returns : tie.Need-returns Inv-loop μ-loop
 returns c =
     let the-loop-test = c .before .before .loop-test in
     let the-loop = c .before .before .before .loop in
-    let the-args = c .before .before .before .before .args in
-    (let here = stands-here (the-args .kind) (the-args .text .now) (the-loop .at) (the-loop-test .taken) (c .if1 .taken) in omega (arith, here, the-loop .inv .1), omega arith)
+    let the-args = c .before .before .before .before .args in (
+      let here = stands-here (the-args .kind) (the-args .text .now) (the-loop .at) (the-loop-test .taken) (c .if1 .taken) in omega
+          (arith, here, the-loop .inv .1),
+      omega arith,
+    )
 
 loop-again : tie.Need-loop-again Inv-loop μ-loop
 loop-again c =
     let the-loop-test = c .before .before .loop-test in
     let the-loop = c .before .before .before .loop in
-    let the-args = c .before .before .before .before .args in
-    (omega arith, let later = stands-later (the-args .kind) (the-args .text .now) (the-loop .at) (the-loop-test .taken) (c .if1 .left) in omega (arith, later, the-loop .inv .1))
+    let the-args = c .before .before .before .before .args in (
+      omega arith,
+      let later = stands-later (the-args .kind) (the-args .text .now) (the-loop .at) (the-loop-test .taken) (c .if1 .left) in
+          omega (arith, later, the-loop .inv .1),
+    )
 
 returns-2 : tie.Need-returns-2 Inv-loop μ-loop
 returns-2 c =
-    let the-args = c .before .before .args in
-    (let nowhere = stands-nowhere (the-args .kind) (the-args .text .now) (c .before .loop .at) (omega arith) in omega (arith, nowhere, c .before .loop .inv .1), omega arith)
+    let the-args = c .before .before .args in (
+      let nowhere = stands-nowhere (the-args .kind) (the-args .text .now) (c .before .loop .at) (omega arith) in omega
+          (arith, nowhere, c .before .loop .inv .1),
+      omega arith,
+    )
 
 pub next-at-spec : {M : Type 1} → statement M
 next-at-spec =

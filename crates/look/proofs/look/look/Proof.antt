@@ -14,7 +14,10 @@ returns c =
     let the-its-invoice = c .before .before .before .before .before .before .before .its-invoice in
     let the-its-initiate = c .before .before .before .before .before .before .before .before .its-initiate in
     let the-args = c .before .before .before .before .before .before .before .before .before .before .args in
-    subst (λ (see : Record → Seen). Looked (the-args .n) (the-args .earlier) (the-args .t .now) (the-args .trusted) see (c .look-for .result)) (λ i R. seenOf (the-its-initiate .ensures i) (the-its-invoice .ensures i) (the-its-payment .ensures i) (the-its-request .ensures i) R) (c .look-for .ensures)
+    subst (λ (see : Record → Seen). Looked (the-args .n) (the-args .earlier) (the-args .t .now) (the-args .trusted) see
+    (c .look-for .result))
+    (λ i R. seenOf (the-its-initiate .ensures i) (the-its-invoice .ensures i) (the-its-payment .ensures i) (the-its-request .ensures i) R)
+    (c .look-for .ensures)
 
 pub look-spec : {M : Type 1} → statement M
 look-spec =

@@ -25,8 +25,12 @@ abbrev μ-loop : tie.MeasureT-loop
 
 loop-holds : tie.Need-loop-holds Inv-loop μ-loop
 loop-holds c =
-    let the-args = c .before .before .before .before .before .before .before .before .before .before .args in
-    (search needs, refl, none-seen (the-args .initiate .now) (the-args .invoice .now) (the-args .payment .now) (the-args .request .now) (the-args .t .now) (the-args .earlier))
+    let the-args = c .before .before .before .before .before .before .before .before .before .before .args in (
+      search needs,
+      refl,
+      none-seen (the-args .initiate .now) (the-args .invoice .now) (the-args .payment .now) (the-args .request .now)
+          (the-args .t .now) (the-args .earlier),
+    )
 
 message-requires : tie.Need-message-requires Inv-loop μ-loop
 message-requires c κs =
@@ -38,8 +42,14 @@ returns c =
     let the-message = c .before .before .before .before .message in
     let the-loop-test = c .before .before .before .before .before .loop-test in
     let the-loop = c .before .before .before .before .before .before .loop in
-    let the-args = c .before .before .before .before .before .before .before .before .before .before .before .before .before .before .before .before .before .args in
-    record { lawful = leaves (c .before .passes .result) _ (test-next (passed (the-args .trusted)) (the-args .n) (the-args .t .now) (the-loop .i) _ (the-loop-test .taken) (the-message .ensures .0) (c .before .passes .ensures)) (c .if1 .taken) ∙ the-loop .inv .1; seen = λ e. absurd (false≢true e) }
+    let the-args = c .before .before .before .before .before .before .before .before .before .before .before .before .before .before .before
+    .before .before .args in
+    record {
+      lawful = leaves (c .before .passes .result) _
+          (test-next (passed (the-args .trusted)) (the-args .n) (the-args .t .now) (the-loop .i) _ (the-loop-test .taken)
+          (the-message .ensures .0) (c .before .passes .ensures)) (c .if1 .taken) ∙ the-loop .inv .1;
+      seen = λ e. absurd (false≢true e);
+    }
 
 loop-again : tie.Need-loop-again Inv-loop μ-loop
 loop-again c =
@@ -47,15 +57,30 @@ loop-again c =
     let the-message = c .before .before .before .before .before .message in
     let the-loop-test = c .before .before .before .before .before .before .loop-test in
     let the-loop = c .before .before .before .before .before .before .before .loop in
-    let the-args = c .before .before .before .before .before .before .before .before .before .before .before .before .before .before .before .before .before .before .args in
-    (omega arith, goes-on (the-passes .result) _ (test-next (passed (the-args .trusted)) (the-args .n) (the-args .t .now) (the-loop .i) _ (the-loop-test .taken) (the-message .ensures .0) (the-passes .ensures)) (c .before .if1 .left) ∙ the-loop .inv .1, c .noted .ensures (messages (min (the-loop .i) (the-args .earlier)) (the-args .t .now)) (the-loop .inv .2) ∙ ap (seenOf (the-args .initiate .now) (the-args .invoice .now) (the-args .payment .now) (the-args .request .now)) (next-counted (the-args .t .now) (the-loop .i) (the-args .earlier) (the-message .ensures .0)))
+    let the-args = c .before .before .before .before .before .before .before .before .before .before .before .before .before .before .before
+    .before .before .before .args in (
+      omega arith,
+      goes-on (the-passes .result) _
+          (test-next (passed (the-args .trusted)) (the-args .n) (the-args .t .now) (the-loop .i) _ (the-loop-test .taken)
+          (the-message .ensures .0) (the-passes .ensures)) (c .before .if1 .left)
+          ∙ the-loop .inv .1,
+      c .noted .ensures (messages (min (the-loop .i) (the-args .earlier)) (the-args .t .now)) (the-loop .inv .2)
+          ∙ ap (seenOf (the-args .initiate .now) (the-args .invoice .now) (the-args .payment .now) (the-args .request .now))
+          (next-counted (the-args .t .now) (the-loop .i) (the-args .earlier) (the-message .ensures .0)),
+    )
 
 returns-2 : tie.Need-returns-2 Inv-loop μ-loop
 returns-2 c =
     let the-args = c .before .before .before .before .before .before .before .before .before .before .before .before .args in
     let the-pre = c .before .before .before .before .before .before .before .before .before .before .before .before .pre in
     let here : min (c .before .loop .i) (the-args .earlier) ≡ the-args .earlier = omega (arith, the-pre) in
-    record { lawful = sym (test-over (passed (the-args .trusted)) (the-args .n) (the-args .t .now) (c .before .loop .i) (omega arith)) ∙ c .before .loop .inv .1; seen = λ e. c .before .loop .inv .2 ∙ ap (λ (k : ℕ). seenOf (the-args .initiate .now) (the-args .invoice .now) (the-args .payment .now) (the-args .request .now) (messages k (the-args .t .now))) here }
+    record {
+      lawful = sym (test-over (passed (the-args .trusted)) (the-args .n) (the-args .t .now) (c .before .loop .i) (omega arith))
+          ∙ c .before .loop .inv .1;
+      seen = λ e. c .before .loop .inv .2
+          ∙ ap (λ (k : ℕ). seenOf (the-args .initiate .now) (the-args .invoice .now) (the-args .payment .now) (the-args .request .now)
+          (messages k (the-args .t .now))) here;
+    }
 
 pub look-for-spec : {M : Type 1} → statement M
 look-for-spec =

@@ -8,7 +8,8 @@ use Rattle.look.proofs.look.noted.Tie as tie
 returns : tie.Need-returns
 returns c =
     let the-args = c .before .before .before .before .before .before .args in
-    λ R p. not-counted (the-args .initiate .now) (the-args .invoice .now) (the-args .payment .now) (the-args .request .now) R (the-args .m .now) (the-args .counts) (not-true _ (c .if1 .taken)) p
+    λ R p. not-counted (the-args .initiate .now) (the-args .invoice .now) (the-args .payment .now) (the-args .request .now) R
+    (the-args .m .now) (the-args .counts) (not-true _ (c .if1 .taken)) p
 
 returns-2 : tie.Need-returns-2
 returns-2 c =
@@ -20,7 +21,10 @@ returns-2 c =
     let the-same-message = c .before .before .before .before .before .before .before .same-message in
     let the-if1 = c .before .before .before .before .before .before .before .before .if1 in
     let the-args = c .before .before .before .before .before .before .before .before .before .before .before .before .before .before .args in
-    λ R p. counted (the-args .initiate .now) (the-args .invoice .now) (the-args .payment .now) (the-args .request .now) R (the-args .m .now) (the-args .counts) (not-false _ (the-if1 .left)) p (the-either .ensures) (the-same-message .ensures) (the-either2 .ensures) (the-same-message2 .ensures) (the-either3 .ensures) (the-same-message3 .ensures) (c .either4 .ensures) (c .before .same-message4 .ensures)
+    λ R p. counted (the-args .initiate .now) (the-args .invoice .now) (the-args .payment .now) (the-args .request .now) R (the-args .m .now)
+    (the-args .counts) (not-false _ (the-if1 .left)) p (the-either .ensures) (the-same-message .ensures) (the-either2 .ensures)
+    (the-same-message2 .ensures) (the-either3 .ensures) (the-same-message3 .ensures) (c .either4 .ensures)
+    (c .before .same-message4 .ensures)
 
 pub noted-spec : {M : Type 1} → statement M
 noted-spec =

@@ -28,14 +28,18 @@ returns-2 c =
     let the-loop-test = c .before .before .before .loop-test in
     let the-loop = c .before .before .before .before .loop in
     let the-args = c .before .before .before .before .before .before .args in
-    stop _ (ne-eqb _ _ (c .if2 .taken)) ∙ sym (same-from (the-args .a .now) (the-args .b .now) (the-loop .i) (the-loop-test .taken) (omega arith)) ∙ the-loop .inv .1
+    stop _ (ne-eqb _ _ (c .if2 .taken))
+    ∙ sym (same-from (the-args .a .now) (the-args .b .now) (the-loop .i) (the-loop-test .taken) (omega arith)) ∙ the-loop .inv .1
 
 loop-again : tie.Need-loop-again Inv-loop μ-loop
 loop-again c =
     let the-loop-test = c .before .before .before .loop-test in
     let the-loop = c .before .before .before .before .loop in
-    let the-args = c .before .before .before .before .before .before .args in
-    (omega arith, skip (eq-eqb _ _ (c .if2 .left)) refl ∙ sym (same-from (the-args .a .now) (the-args .b .now) (the-loop .i) (the-loop-test .taken) (omega arith)) ∙ the-loop .inv .1)
+    let the-args = c .before .before .before .before .before .before .args in (
+      omega arith,
+      skip (eq-eqb _ _ (c .if2 .left)) refl
+          ∙ sym (same-from (the-args .a .now) (the-args .b .now) (the-loop .i) (the-loop-test .taken) (omega arith)) ∙ the-loop .inv .1,
+    )
 
 returns-3 : tie.Need-returns-3 Inv-loop μ-loop
 returns-3 c =

@@ -9,7 +9,11 @@ returns : tie.Need-returns
 returns c =
     let the-hashed-at = c .before .before .hashed-at in
     let the-args = c .before .before .before .before .args in
-    λ i. record { seller = sellerAt (the-args .m .now) (the-args .k); buyer = buyerAt (the-args .m .now) (the-args .k + 1); hashed = the-hashed-at .ensures i }
+    λ i. record {
+      seller = sellerAt (the-args .m .now) (the-args .k);
+      buyer = buyerAt (the-args .m .now) (the-args .k + 1);
+      hashed = the-hashed-at .ensures i;
+    }
 
 pub mark-at-spec : {M : Type 1} → statement M
 mark-at-spec =

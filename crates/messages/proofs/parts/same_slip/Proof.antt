@@ -42,7 +42,8 @@ returns-4 c =
     let the-same-mark = c .before .before .before .before .before .same-mark in
     let the-if1 = c .before .before .before .before .before .before .if1 in
     let the-args = c .before .before .before .before .before .before .before .before .before .args in
-    past-mark (the-args .a) (the-args .b) (the-if1 .left) (skip (held (the-same-mark .ensures) (the-if2 .left)) (skip (eq-eqb _ _ (c .before .if3 .left)) (c .same-drawn .ensures)))
+    past-mark (the-args .a) (the-args .b) (the-if1 .left)
+    (skip (held (the-same-mark .ensures) (the-if2 .left)) (skip (eq-eqb _ _ (c .before .if3 .left)) (c .same-drawn .ensures)))
 
 pub same-slip-spec : {M : Type 1} → statement M
 same-slip-spec =

@@ -10,7 +10,13 @@ returns c =
     let the-drawn-at = c .before .before .drawn-at in
     let the-mark-at = c .before .before .before .mark-at in
     let the-args = c .before .before .before .before .before .args in
-    λ i. record { key = gatewayAt (the-args .m .now) (the-args .k); mark = the-mark-at .ensures i; account = accountAt (the-args .m .now) (the-args .k + 1 + markWidth); drawn = the-drawn-at .ensures i }
+    λ i. record {
+      key = gatewayAt (the-args .m .now) (the-args .k);
+      mark = the-mark-at .ensures i;
+      account = accountAt (the-args .m .now)
+          (the-args .k + 1 + markWidth);
+      drawn = the-drawn-at .ensures i;
+    }
 
 pub slip-at-spec : {M : Type 1} → statement M
 slip-at-spec =

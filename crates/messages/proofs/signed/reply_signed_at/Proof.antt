@@ -10,7 +10,11 @@ returns : tie.Need-returns
 returns c =
     let the-mark-at = c .before .before .mark-at in
     let the-args = c .before .before .before .before .args in
-    λ i. record { signer = gatewayAt (the-args .m .now) (the-args .k); code = getD (the-args .m .now) (the-args .k + 1) 0; mark = the-mark-at .ensures i }
+    λ i. record {
+      signer = gatewayAt (the-args .m .now) (the-args .k);
+      code = getD (the-args .m .now) (the-args .k + 1) 0;
+      mark = the-mark-at .ensures i;
+    }
 
 pub reply-signed-at-spec : {M : Type 1} → statement M
 reply-signed-at-spec =

@@ -11,7 +11,8 @@ returns c =
     let the-put-cell2 = c .before .before .before .before .before .before .put-cell2 in
     let the-put-cell = c .before .before .before .before .before .before .before .before .before .before .put-cell in
     let the-put-byte = c .before .before .before .before .before .before .before .before .before .before .before .before .before .before .put-byte in
-    then (omega arith) (the-put-byte .ensures) (then (omega arith) (the-put-cell .ensures) (then (omega arith) (the-put-cell2 .ensures) (the-put-byte2 .ensures)))
+    then (omega arith) (the-put-byte .ensures)
+    (then (omega arith) (the-put-cell .ensures) (then (omega arith) (the-put-cell2 .ensures) (the-put-byte2 .ensures)))
 
 pub put-refused-line-spec : {M : Type 1} → statement M
 put-refused-line-spec =

@@ -27,7 +27,9 @@ returns c =
     let the-loop-test = c .before .before .before .loop-test in
     let the-loop = c .before .before .before .before .loop in
     let the-args = c .before .before .before .before .before .before .before .before .args in
-    leaves (c .before .is-lawful-by .result) _ (test-next lawful (the-args .n) (the-args .t .now) (the-loop .i) _ (the-loop-test .taken) (the-message .ensures .0) (c .before .is-lawful-by .ensures)) (c .if1 .taken)
+    leaves (c .before .is-lawful-by .result) _
+    (test-next lawful (the-args .n) (the-args .t .now) (the-loop .i) _ (the-loop-test .taken) (the-message .ensures .0)
+    (c .before .is-lawful-by .ensures)) (c .if1 .taken)
     ∙ the-loop .inv .1
 
 loop-again : tie.Need-loop-again Inv-loop μ-loop
@@ -37,7 +39,9 @@ loop-again c =
     let the-loop = c .before .before .before .before .loop in
     let the-args = c .before .before .before .before .before .before .before .before .args in (
       omega arith,
-      goes-on (c .before .is-lawful-by .result) _ (test-next lawful (the-args .n) (the-args .t .now) (the-loop .i) _ (the-loop-test .taken) (the-message .ensures .0) (c .before .is-lawful-by .ensures)) (c .if1 .left)
+      goes-on (c .before .is-lawful-by .result) _
+          (test-next lawful (the-args .n) (the-args .t .now) (the-loop .i) _ (the-loop-test .taken) (the-message .ensures .0)
+          (c .before .is-lawful-by .ensures)) (c .if1 .left)
           ∙ the-loop .inv .1,
     )
 

@@ -35,8 +35,12 @@ loop-holds c = (search needs, refl, paste-zero (c .args .t .now) (c .args .from)
 loop-again : tie.Need-loop-again Inv-loop μ-loop
 loop-again c =
     let the-loop = c .before .before .loop in
-    let the-args = c .before .before .before .args in
-    (omega arith, simp length-set (the-loop .inv .1), turn (the-args .t .now) (the-args .from) (the-args .xs .now) (the-loop .i) (the-loop .inv .2) (omega arith) (omega arith))
+    let the-args = c .before .before .before .args in (
+      omega arith,
+      simp length-set (the-loop .inv .1),
+      turn (the-args .t .now) (the-args .from) (the-args .xs .now) (the-loop .i)
+          (the-loop .inv .2) (omega arith) (omega arith),
+    )
 
 same-length : tie.Need-same-length Inv-loop μ-loop
 same-length c = c .before .loop .inv .1

@@ -19,7 +19,8 @@ returns-2 c =
     let the-if1 = c .before .before .if1 in
     let the-is-whole = c .before .before .before .is-whole in
     let the-args = c .before .before .before .before .before .args in
-    unlawful (the-args .n) (the-args .t .now) (the-args .place) (sym (skip (held (the-is-whole .ensures) (the-if1 .left)) (stop _ (lt-leb (the-args .n) (roomOf (the-args .t .now)) (omega arith)))))
+    unlawful (the-args .n) (the-args .t .now) (the-args .place)
+    (sym (skip (held (the-is-whole .ensures) (the-if1 .left)) (stop _ (lt-leb (the-args .n) (roomOf (the-args .t .now)) (omega arith)))))
 
 returns-3 : tie.Need-returns-3
 returns-3 c =
@@ -29,7 +30,10 @@ returns-3 c =
     let the-if1 = c .before .before .before .before .before .before .before .if1 in
     let the-is-whole = c .before .before .before .before .before .before .before .before .is-whole in
     let the-args = c .before .before .before .before .before .before .before .before .before .before .args in
-    unlawful (the-args .n) (the-args .t .now) (the-args .place) (sym (skip (held (the-is-whole .ensures) (the-if1 .left)) (skip (le-leb (the-args .n) (roomOf (the-args .t .now)) (omega (arith, the-if2 .left, the-room .ensures))) (sym (not-true (the-look .result .lawful) (c .if3 .taken)) ∙ the-look .ensures .lawful))))
+    unlawful (the-args .n) (the-args .t .now) (the-args .place)
+    (sym (skip (held (the-is-whole .ensures) (the-if1 .left))
+    (skip (le-leb (the-args .n) (roomOf (the-args .t .now)) (omega (arith, the-if2 .left, the-room .ensures)))
+    (sym (not-true (the-look .result .lawful) (c .if3 .taken)) ∙ the-look .ensures .lawful))))
 
 returns-4 : tie.Need-returns-4
 returns-4 c =
@@ -41,7 +45,10 @@ returns-4 c =
     let the-if1 = c .before .before .before .before .before .before .before .before .before .if1 in
     let the-is-whole = c .before .before .before .before .before .before .before .before .before .before .is-whole in
     let the-args = c .before .before .before .before .before .before .before .before .before .before .before .before .args in
-    refused (the-args .n) (the-args .t .now) (the-args .place) (sym (skip (held (the-is-whole .ensures) (the-if1 .left)) (skip (le-leb (the-args .n) (roomOf (the-args .t .now)) (omega (arith, the-if2 .left, the-room .ensures))) (sym (not-false (the-look .result .lawful) (the-if3 .left)) ∙ the-look .ensures .lawful)))) (the-reply-at .ensures) (c .if4 .taken)
+    refused (the-args .n) (the-args .t .now) (the-args .place)
+    (sym (skip (held (the-is-whole .ensures) (the-if1 .left))
+    (skip (le-leb (the-args .n) (roomOf (the-args .t .now)) (omega (arith, the-if2 .left, the-room .ensures)))
+    (sym (not-false (the-look .result .lawful) (the-if3 .left)) ∙ the-look .ensures .lawful)))) (the-reply-at .ensures) (c .if4 .taken)
 
 returns-5 : tie.Need-returns-5
 returns-5 c =
@@ -53,7 +60,13 @@ returns-5 c =
     let the-if1 = c .before .before .before .before .before .before .before .before .before .before .if1 in
     let the-is-whole = c .before .before .before .before .before .before .before .before .before .before .before .is-whole in
     let the-args = c .before .before .before .before .before .before .before .before .before .before .before .before .before .args in
-    reported (the-args .n) (the-args .t .now) (the-args .place) (sym (skip (held (the-is-whole .ensures) (the-if1 .left)) (skip (le-leb (the-args .n) (roomOf (the-args .t .now)) (omega (arith, the-if2 .left, the-room .ensures))) (sym (not-false (the-look .result .lawful) (the-if3 .left)) ∙ the-look .ensures .lawful)))) (the-reply-at .ensures) (c .before .if4 .left) (c .verdict .ensures (messages (the-reply-at .result .earlier) (the-args .t .now)) (the-look .ensures .seen (not-false (the-look .result .lawful) (the-if3 .left))))
+    reported (the-args .n) (the-args .t .now) (the-args .place)
+    (sym (skip (held (the-is-whole .ensures) (the-if1 .left))
+    (skip (le-leb (the-args .n) (roomOf (the-args .t .now)) (omega (arith, the-if2 .left, the-room .ensures)))
+    (sym (not-false (the-look .result .lawful) (the-if3 .left)) ∙ the-look .ensures .lawful)))) (the-reply-at .ensures)
+    (c .before .if4 .left)
+    (c .verdict .ensures (messages (the-reply-at .result .earlier) (the-args .t .now))
+    (the-look .ensures .seen (not-false (the-look .result .lawful) (the-if3 .left))))
 
 pub report-spec : {M : Type 1} → statement M
 report-spec =

@@ -17,7 +17,8 @@ returns-2 c =
     let the-if1 = c .before .before .if1 in
     let the-is-outside = c .before .before .before .is-outside in
     let the-args = c .before .before .before .before .args in
-    λ R p. no _ (sym (the-is-outside .ensures) ∙ the-if1 .left) (yes _ (agreed-seen (the-args .mark) R p ∙ sym (c .before .is-agreed .ensures) ∙ c .if2 .taken) refl)
+    λ R p. no _ (sym (the-is-outside .ensures) ∙ the-if1 .left)
+    (yes _ (agreed-seen (the-args .mark) R p ∙ sym (c .before .is-agreed .ensures) ∙ c .if2 .taken) refl)
 
 returns-3 : tie.Need-returns-3
 unfolding reportOn
@@ -25,7 +26,8 @@ returns-3 c =
     let the-if1 = c .before .before .if1 in
     let the-is-outside = c .before .before .before .is-outside in
     let the-args = c .before .before .before .before .args in
-    λ R p. no _ (sym (the-is-outside .ensures) ∙ the-if1 .left) (no _ (agreed-seen (the-args .mark) R p ∙ sym (c .before .is-agreed .ensures) ∙ c .if2 .left) refl)
+    λ R p. no _ (sym (the-is-outside .ensures) ∙ the-if1 .left)
+    (no _ (agreed-seen (the-args .mark) R p ∙ sym (c .before .is-agreed .ensures) ∙ c .if2 .left) refl)
 
 pub verdict-spec : {M : Type 1} → statement M
 verdict-spec =

@@ -31,8 +31,12 @@ returns : tie.Need-returns
 returns c =
     let the-put-results = c .before .before .put-results in
     let the-play = c .before .before .before .before .before .before .before .before .before .play in
-    let the-args = c .before .before .before .before .before .before .before .before .before .before .before .before .before .before .before .args in
-    (subst (λ (bs : Text). Put (the-args .out .now) 0 bs mostPrinted (the-put-results .last .0) (the-put-results .result)) (printed (the-args .answers) (the-args .table .now) (the-args .steps .now) _ (the-play .result) (the-play .last .0) (the-play .last .1 .1 .1 .0) (the-play .ensures)) (the-put-results .ensures), the-play .ensures .record-left)
+    let the-args = c .before .before .before .before .before .before .before .before .before .before .before .before .before .before .before .args in (
+      subst (λ (bs : Text). Put (the-args .out .now) 0 bs mostPrinted (the-put-results .last .0) (the-put-results .result))
+          (printed (the-args .answers) (the-args .table .now) (the-args .steps .now) _ (the-play .result) (the-play .last .0)
+          (the-play .last .1 .1 .1 .0) (the-play .ensures)) (the-put-results .ensures),
+      the-play .ensures .record-left,
+    )
 
 pub play-steps-spec : {M : Type 1} → statement M
 play-steps-spec =

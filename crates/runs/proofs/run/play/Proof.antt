@@ -39,14 +39,17 @@ loop-again c =
     let the-loop = c .before .before .before .before .before .before .before .loop in
     let the-args = c .before .before .before .before .before .before .before .before .before .before .before .before .args in
     let the-pre = c .before .before .before .before .before .before .before .before .before .before .before .before .pre in
-    turn (the-args .answers) (the-args .t .now) (the-args .steps .now) (the-args .verdicts .now) (the-loop .t) (the-loop .verdicts) (the-loop .n) (the-loop .i) (the-loop .inv) (the-loop-test .taken) (the-pre .1) _
-    (part (the-loop .i * stepWidth) stepWidth (the-args .steps .now) (omega arith) .0 ∙ sym (step-at (the-args .steps .now) (the-loop .i) (the-loop-test .taken)))
+    turn (the-args .answers) (the-args .t .now) (the-args .steps .now) (the-args .verdicts .now) (the-loop .t) (the-loop .verdicts)
+    (the-loop .n) (the-loop .i) (the-loop .inv) (the-loop-test .taken) (the-pre .1) _
+    (part (the-loop .i * stepWidth) stepWidth (the-args .steps .now) (omega arith) .0
+    ∙ sym (step-at (the-args .steps .now) (the-loop .i) (the-loop-test .taken)))
     (the-play-one .result .number) (the-play-one .result .n) (the-play-one .last .0) (the-play-one .kept .0) (the-play-one .ensures)
 
 returns : tie.Need-returns Inv-loop μ-loop
 returns c =
     let the-args = c .before .before .before .before .before .before .args in
-    over-and-done (the-args .answers) (the-args .t .now) (the-args .steps .now) (the-args .verdicts .now) (c .before .loop .t) (c .before .loop .verdicts) (c .before .loop .n) (c .before .loop .i) (c .before .loop .inv) (omega (arith, c .before .loop .inv .upto))
+    over-and-done (the-args .answers) (the-args .t .now) (the-args .steps .now) (the-args .verdicts .now) (c .before .loop .t)
+    (c .before .loop .verdicts) (c .before .loop .n) (c .before .loop .i) (c .before .loop .inv) (omega (arith, c .before .loop .inv .upto))
 
 pub play-spec : {M : Type 1} → statement M
 play-spec =
@@ -64,7 +67,12 @@ play-spec =
     (λ c. omega arith)
     (λ c. omega arith)
     play-one-requires
-    (λ c. omega (arith, c .before .before .before .before .before .before .before .before .before .before .before .before .pre .1, c .before .before .before .before .before .before .before .loop .inv .as-many))
+    (λ c. omega (
+      arith,
+      c .before .before .before .before .before .before .before .before .before .before .before .before .pre .1,
+      c .before
+          .before .before .before .before .before .before .loop .inv .as-many,
+    ))
     (λ c. omega arith)
     (λ c. omega arith)
     loop-again

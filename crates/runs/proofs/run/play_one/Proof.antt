@@ -15,14 +15,19 @@ returns c =
     let the-judge-step = c .before .before .before .before .before .judge-step in
     let the-args = c .before .before .before .before .before .before .before .before .before .before .args in
     let o = judge (the-args .answers) (roomOf (the-args .t .now)) (messages (the-args .n) (the-args .t .now)) (the-args .s .now) in
-    one-accepted (the-args .n) (the-args .t .now) o (c .before .place .given .0 .0) (the-judge-step .last .0) (never-zero (the-args .answers) (roomOf (the-args .t .now)) (messages (the-args .n) (the-args .t .now)) (the-args .s .now)) (subst (λ (r : Answer). Answered (the-args .n) (the-args .t .now) o r (the-judge-step .last .0)) (c .before .place .given .1) (the-judge-step .ensures))
+    one-accepted (the-args .n) (the-args .t .now) o (c .before .place .given .0 .0) (the-judge-step .last .0)
+    (never-zero (the-args .answers) (roomOf (the-args .t .now)) (messages (the-args .n) (the-args .t .now)) (the-args .s .now))
+    (subst (λ (r : Answer). Answered (the-args .n) (the-args .t .now) o r (the-judge-step .last .0)) (c .before .place .given .1)
+    (the-judge-step .ensures))
 
 returns-2 : tie.Need-returns-2
 returns-2 c =
     let the-judge-step = c .before .before .before .before .before .judge-step in
     let the-args = c .before .before .before .before .before .before .before .before .before .before .args in
     let o = judge (the-args .answers) (roomOf (the-args .t .now)) (messages (the-args .n) (the-args .t .now)) (the-args .s .now) in
-    one-refused (the-args .n) (the-args .t .now) o (c .before .number .given .0 .0) (the-judge-step .last .0) (subst (λ (r : Answer). Answered (the-args .n) (the-args .t .now) o r (the-judge-step .last .0)) (c .before .number .given .1) (the-judge-step .ensures))
+    one-refused (the-args .n) (the-args .t .now) o (c .before .number .given .0 .0) (the-judge-step .last .0)
+    (subst (λ (r : Answer). Answered (the-args .n) (the-args .t .now) o r (the-judge-step .last .0)) (c .before .number .given .1)
+    (the-judge-step .ensures))
 
 pub play-one-spec : {M : Type 1} → statement M
 play-one-spec =

@@ -11,14 +11,16 @@ use Rattle.runs.proofs.run.run.Tie as tie
 returns : tie.Need-returns
 returns c =
     let the-args = c .before .before .before .before .before .before .args in
-    not-whole (the-args .answers) (the-args .t .now) (the-args .steps .now) (the-args .verdicts .now) (failed (c .before .is-whole .ensures) (c .if1 .taken))
+    not-whole (the-args .answers) (the-args .t .now) (the-args .steps .now) (the-args .verdicts .now)
+    (failed (c .before .is-whole .ensures) (c .if1 .taken))
 
 returns-2 : tie.Need-returns-2
 returns-2 c =
     let the-if1 = c .before .before .if1 in
     let the-is-whole = c .before .before .before .is-whole in
     let the-args = c .before .before .before .before .before .before .before .before .args in
-    no-steps (the-args .answers) (the-args .t .now) (the-args .steps .now) (the-args .verdicts .now) (held (the-is-whole .ensures) (the-if1 .left)) (failed (c .before .are-whole-steps .ensures) (c .if2 .taken))
+    no-steps (the-args .answers) (the-args .t .now) (the-args .steps .now) (the-args .verdicts .now)
+    (held (the-is-whole .ensures) (the-if1 .left)) (failed (c .before .are-whole-steps .ensures) (c .if2 .taken))
 
 returns-3 : tie.Need-returns-3
 returns-3 c =
@@ -26,7 +28,9 @@ returns-3 c =
     let the-if1 = c .before .before .before .if1 in
     let the-is-whole = c .before .before .before .before .is-whole in
     let the-args = c .before .before .before .before .before .before .before .before .before .args in
-    few-bytes (the-args .answers) (the-args .t .now) (the-args .steps .now) (the-args .verdicts .now) (held (the-is-whole .ensures) (the-if1 .left)) (held (the-are-whole-steps .ensures) (c .before .if2 .left)) (lt-leb (stepCount (the-args .steps .now)) (length (the-args .verdicts .now)) (c .if3 .taken))
+    few-bytes (the-args .answers) (the-args .t .now) (the-args .steps .now) (the-args .verdicts .now)
+    (held (the-is-whole .ensures) (the-if1 .left)) (held (the-are-whole-steps .ensures) (c .before .if2 .left))
+    (lt-leb (stepCount (the-args .steps .now)) (length (the-args .verdicts .now)) (c .if3 .taken))
 
 play-requires : tie.Need-play-requires
 play-requires c κs =
@@ -43,8 +47,12 @@ returns-4 c =
     let the-are-whole-steps = c .before .before .before .before .before .before .before .before .before .are-whole-steps in
     let the-if1 = c .before .before .before .before .before .before .before .before .before .before .if1 in
     let the-is-whole = c .before .before .before .before .before .before .before .before .before .before .before .is-whole in
-    let the-args = c .before .before .before .before .before .before .before .before .before .before .before .before .before .before .before .before .args in
-    plays (the-args .answers) (the-args .t .now) (the-args .steps .now) (the-args .verdicts .now) (held (the-is-whole .ensures) (the-if1 .left)) (held (the-are-whole-steps .ensures) (the-if2 .left)) (the-play .result) (the-play .last .0) (the-play .last .1 .1 .1 .0) (le-leb (stepCount (the-args .steps .now)) (length (the-args .verdicts .now)) (the-if3 .left)) (the-play .ensures)
+    let the-args = c .before .before .before .before .before .before .before .before .before .before .before .before .before .before .before
+    .before .args in
+    plays (the-args .answers) (the-args .t .now) (the-args .steps .now) (the-args .verdicts .now)
+    (held (the-is-whole .ensures) (the-if1 .left)) (held (the-are-whole-steps .ensures) (the-if2 .left)) (the-play .result)
+    (the-play .last .0) (the-play .last .1 .1 .1 .0)
+    (le-leb (stepCount (the-args .steps .now)) (length (the-args .verdicts .now)) (the-if3 .left)) (the-play .ensures)
 
 pub run-spec : {M : Type 1} → statement M
 run-spec =

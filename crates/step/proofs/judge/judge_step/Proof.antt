@@ -18,7 +18,9 @@ shared-slice-read-code c =
 returns : tie.Need-returns
 returns c =
     let the-args = c .before .before .before .before .before .before .args in
-    refuses (the-args .n) (the-args .t .now) (unknown (the-args .answers) (the-args .n) (the-args .t .now) (the-args .s .now) (failed (c .before .is-known .ensures) (c .if1 .taken)))
+    refuses (the-args .n) (the-args .t .now)
+    (unknown (the-args .answers) (the-args .n) (the-args .t .now) (the-args .s .now)
+    (failed (c .before .is-known .ensures) (c .if1 .taken)))
 
 cast-row-of : tie.Need-cast-row-of
 cast-row-of c =
@@ -48,7 +50,9 @@ returns-2 c =
     let the-is-known = c .before .before .before .before .before .is-known in
     let the-args = c .before .before .before .before .before .before .before .before .before .before .args in
     let known = held (the-is-known .ensures) (the-if1 .left) in
-    refuses (the-args .n) (the-args .t .now) (faulty (the-args .answers) (the-args .n) (the-args .t .now) (the-args .s .now) known (c .before .first-fault .result) (c .before .first-fault .ensures) (c .if2 .taken))
+    refuses (the-args .n) (the-args .t .now)
+    (faulty (the-args .answers) (the-args .n) (the-args .t .now) (the-args .s .now) known (c .before .first-fault .result)
+    (c .before .first-fault .ensures) (c .if2 .taken))
 
 decide-requires : tie.Need-decide-requires
 decide-requires c κs =
@@ -59,8 +63,11 @@ decide-requires c κs =
     let the-args = c .before .before .before .before .before .before .before .before .before .before .before .args in
     let the-pre = c .before .before .before .before .before .before .before .before .before .before .before .pre in
     let known = held (the-is-known .ensures) (the-if1 .left) in
-    let fine = sym (c .before .if2 .left) ∙ the-first-fault .ensures in
-    (the-pre .0, ready (the-args .answers) (the-args .n) (the-args .t .now) (the-args .s .now) known fine (known-step (the-pre .3) known (the-row-of .ensures)) (omega (arith, the-pre .1)))
+    let fine = sym (c .before .if2 .left) ∙ the-first-fault .ensures in (
+      the-pre .0,
+      ready (the-args .answers) (the-args .n) (the-args .t .now) (the-args .s .now) known fine
+          (known-step (the-pre .3) known (the-row-of .ensures)) (omega (arith, the-pre .1)),
+    )
 
 returns-3 : tie.Need-returns-3
 returns-3 c =

@@ -12,7 +12,9 @@ use Rattle.step.proofs.judge.step.Tie as tie
 returns : tie.Need-returns
 returns c =
     let the-args = c .before .before .before .before .args in
-    refuses (the-args .n) (the-args .t .now) (unlawful (the-args .answers) (the-args .n) (the-args .t .now) (the-args .t4) (failed (c .before .is-lawful-record .ensures) (c .if1 .taken)))
+    refuses (the-args .n) (the-args .t .now)
+    (unlawful (the-args .answers) (the-args .n) (the-args .t .now) (the-args .t4)
+    (failed (c .before .is-lawful-record .ensures) (c .if1 .taken)))
 
 judge-step-requires : tie.Need-judge-step-requires
 judge-step-requires c κs =

@@ -42,7 +42,9 @@ returns c =
     let the-loop-test = c .before .before .before .before .loop-test in
     let the-loop = c .before .before .before .before .before .loop in
     let the-args = c .before .before .before .before .before .before .before .before .args in
-    refused-line (the-args .text .now) (the-args .from) (the-args .answers) (the-args .t .now) (the-loop .t) (the-loop .at) (the-loop .count) (the-loop .inv) (the-loop-test .taken) _ (the-next-line .ensures) (failed (readable-is _ _ (the-step-said .ensures)) (c .if1 .taken))
+    refused-line (the-args .text .now) (the-args .from) (the-args .answers) (the-args .t .now) (the-loop .t) (the-loop .at)
+    (the-loop .count) (the-loop .inv) (the-loop-test .taken) _ (the-next-line .ensures)
+    (failed (readable-is _ _ (the-step-said .ensures)) (c .if1 .taken))
 
 same-length-2 : tie.Need-same-length-2 Inv-loop μ-loop
 same-length-2 c =
@@ -56,7 +58,9 @@ returns-2 c =
     let the-loop-test = c .before .before .before .before .before .loop-test in
     let the-loop = c .before .before .before .before .before .before .loop in
     let the-args = c .before .before .before .before .before .before .before .before .before .args in
-    refused-text (the-args .text .now) (the-args .from) (the-args .answers) (the-args .t .now) (the-loop .t) (the-loop .at) (the-loop .count) (the-loop .inv) (the-loop-test .taken) _ (the-next-line .ensures) (held (readable-is _ _ (the-step-said .ensures)) (c .before .if1 .left)) (c .if2 .taken)
+    refused-text (the-args .text .now) (the-args .from) (the-args .answers) (the-args .t .now) (the-loop .t) (the-loop .at)
+    (the-loop .count) (the-loop .inv) (the-loop-test .taken) _ (the-next-line .ensures)
+    (held (readable-is _ _ (the-step-said .ensures)) (c .before .if1 .left)) (c .if2 .taken)
 
 mul-copy-into : tie.Need-mul-copy-into Inv-loop μ-loop
 mul-copy-into c =
@@ -71,8 +75,10 @@ copy-into-requires c κs =
     let the-loop = c .before .before .before .before .before .before .before .before .before .loop in
     let the-pre = c .before .before .before .before .before .before .before .before .before .before .before .before .pre in
     let is-step = held (readable-is _ _ (the-step-said .ensures)) (the-if1 .left) in
-    let w : length (the-step-said .result .numbers) ≡ stepWidth = ap length (numbers-are _ _ (the-step-said .ensures) (not-false _ (the-if1 .left))) ∙ seven _ is-step in
-    let h : the-loop .count * stepWidth + length (the-step-said .result .numbers) ≤ length (the-loop .t) = omega (arith, the-loop .inv .few, the-loop .inv .long, the-pre .1, the-if2 .left) in
+    let w : length (the-step-said .result .numbers) ≡ stepWidth = ap length
+    (numbers-are _ _ (the-step-said .ensures) (not-false _ (the-if1 .left))) ∙ seven _ is-step in
+    let h : the-loop .count * stepWidth + length (the-step-said .result .numbers) ≤ length (the-loop .t) = omega
+    (arith, the-loop .inv .few, the-loop .inv .long, the-pre .1, the-if2 .left) in
     h
 
 add-count : tie.Need-add-count Inv-loop μ-loop
@@ -112,7 +118,10 @@ loop-again c =
     let the-args = c .before .before .before .before .before .before .before .before .before .before .before .before .before .before .before .args in
     let the-pre = c .before .before .before .before .before .before .before .before .before .before .before .before .before .before .before .pre in
     let numbered = numbers-are _ _ (the-step-said .ensures) (not-false _ (the-if1 .left)) in
-    turn (the-args .text .now) (the-args .from) (the-args .answers) (the-args .t .now) (the-loop .t) (the-loop .at) (the-loop .count) (the-loop .inv) (the-loop-test .taken) (the-next-line .result .now) (the-next-line .ensures) (held (readable-is _ _ (the-step-said .ensures)) (the-if1 .left)) (the-if2 .left) (the-pre .1) (the-copy-into .last .0) (the-copy-into .ensures ∙ ap (withNumbers (the-loop .count * stepWidth) (the-loop .t)) numbered) (the-copy-into .kept .0)
+    turn (the-args .text .now) (the-args .from) (the-args .answers) (the-args .t .now) (the-loop .t) (the-loop .at) (the-loop .count)
+    (the-loop .inv) (the-loop-test .taken) (the-next-line .result .now) (the-next-line .ensures)
+    (held (readable-is _ _ (the-step-said .ensures)) (the-if1 .left)) (the-if2 .left) (the-pre .1) (the-copy-into .last .0)
+    (the-copy-into .ensures ∙ ap (withNumbers (the-loop .count * stepWidth) (the-loop .t)) numbered) (the-copy-into .kept .0)
 
 same-length-3 : tie.Need-same-length-3 Inv-loop μ-loop
 same-length-3 c = c .before .loop .inv .long
@@ -120,7 +129,8 @@ same-length-3 c = c .before .loop .inv .long
 returns-3 : tie.Need-returns-3 Inv-loop μ-loop
 returns-3 c =
     let the-args = c .before .before .before .before .args in
-    over-and-done (the-args .text .now) (the-args .from) (the-args .answers) (the-args .t .now) (c .before .loop .t) (c .before .loop .at) (c .before .loop .count) (c .before .loop .inv) (c .loop-test .left)
+    over-and-done (the-args .text .now) (the-args .from) (the-args .answers) (the-args .t .now) (c .before .loop .t) (c .before .loop .at)
+    (c .before .loop .count) (c .before .loop .inv) (c .loop-test .left)
 
 pub gather-spec : {M : Type 1} → statement M
 gather-spec =

@@ -32,7 +32,8 @@ returns-3 c =
     let the-if2 = c .before .before .before .before .if2 in
     let the-if1 = c .before .before .before .before .before .if1 in
     let the-args = c .before .before .before .before .before .before .before .before .args in
-    unread-first (the-args .text .now) (the-args .steps .now) (the-if1 .left) (the-if2 .left) (sym (c .enum-told .given .1) ∙ the-answers-said .ensures ∙ ap answersSaid (the-next-line .ensures))
+    unread-first (the-args .text .now) (the-args .steps .now) (the-if1 .left) (the-if2 .left)
+    (sym (c .enum-told .given .1) ∙ the-answers-said .ensures ∙ ap answersSaid (the-next-line .ensures))
 
 gather-requires : tie.Need-gather-requires
 gather-requires c κs =
@@ -47,11 +48,20 @@ returns-4 c =
     let the-gather = c .before .before .before .before .before .before .before .before .gather in
     let the-said = c .before .before .before .before .before .before .before .before .before .before .before .said in
     let the-answers-said = c .before .before .before .before .before .before .before .before .before .before .before .before .before .answers-said in
-    let the-next-line = c .before .before .before .before .before .before .before .before .before .before .before .before .before .before .next-line in
+    let the-next-line = c .before .before .before .before .before .before .before .before .before .before .before .before .before .before
+    .next-line in
     let the-if2 = c .before .before .before .before .before .before .before .before .before .before .before .before .before .before .before .if2 in
-    let the-if1 = c .before .before .before .before .before .before .before .before .before .before .before .before .before .before .before .before .if1 in
-    let the-args = c .before .before .before .before .before .before .before .before .before .before .before .before .before .before .before .before .before .before .before .args in
-    all-gathered (the-args .text .now) (the-args .steps .now) (the-if1 .left) (the-if2 .left) (the-said .given .0 .0) (sym (the-said .given .1) ∙ the-answers-said .ensures ∙ ap answersSaid (the-next-line .ensures)) (the-gather .result) (the-gather .last .1 .1 .1 .0) _ (subst (λ (z : List ℕ). Gathers (readSteps (the-said .given .0 .0) [] (lines (drop (length z) (the-args .text .now)))) (the-gather .result) (the-gather .last .1 .1 .1 .0)) (the-next-line .ensures) (the-gather .ensures)) (the-copy-into .ensures ∙ ap (λ (k : ℕ). withNumbers 0 (the-args .steps .now) (take (k * stepWidth - 0) (the-gather .last .1 .1 .1 .0))) (the-count .ensures))
+    let the-if1 = c .before .before .before .before .before .before .before .before .before .before .before .before .before .before .before
+    .before .if1 in
+    let the-args = c .before .before .before .before .before .before .before .before .before .before .before .before .before .before .before
+    .before .before .before .before .args in
+    all-gathered (the-args .text .now) (the-args .steps .now) (the-if1 .left) (the-if2 .left) (the-said .given .0 .0)
+    (sym (the-said .given .1) ∙ the-answers-said .ensures ∙ ap answersSaid (the-next-line .ensures)) (the-gather .result)
+    (the-gather .last .1 .1 .1 .0) _
+    (subst (λ (z : List ℕ). Gathers (readSteps (the-said .given .0 .0) [] (lines (drop (length z) (the-args .text .now))))
+    (the-gather .result) (the-gather .last .1 .1 .1 .0)) (the-next-line .ensures) (the-gather .ensures))
+    (the-copy-into .ensures
+    ∙ ap (λ (k : ℕ). withNumbers 0 (the-args .steps .now) (take (k * stepWidth - 0) (the-gather .last .1 .1 .1 .0))) (the-count .ensures))
 
 pub read-text-spec : {M : Type 1} → statement M
 read-text-spec =
