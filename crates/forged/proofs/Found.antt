@@ -1,26 +1,26 @@
 -- What the search of a step's row found: the item is given, its place is in 1..n, and what is read from the message there is what the
 -- definitions name; or it is not given, and what was built stands.
-use mathlib.Core.Bool.{Bool, true, false, _||_, cond, true≢false}
-use mathlib.Core.List.{List, [], _∷_}
+use mathlib.Core.Bool.{Bool, true, false, cond}
+use mathlib.Core.List.{List, []}
 use mathlib.Core.Path.{_≡_, _∙_, refl, sym, ap, subst}
 use Prim.Native.Nat.{ℕ, _*_, _≤_}
 use native.Mathlib.Omega.{arith}
-use borrow.Author.Tests.{eq-eqb, eqb-true, leb-true, ne-eqb}
-use lib.Dec.{eqb, leb}
+use borrow.Author.Tests.{eq-eqb, leb-true, ne-eqb}
+use lib.Dec.{leb}
 use lib.ListN.{length}
-use Rattle.messages.proofs.Chain.{bounds, left-of, right-of}
+use Rattle.messages.proofs.Chain.{bounds}
 use Rattle.record.proofs.Cut.{message-at}
 use Rattle.messages.specs.Layout.{messageWidth}
 use Rattle.messages.specs.Parts.{Message}
 use Rattle.record.specs.Table.{Record, messageAt, messageIn, messages}
 use Rattle.messages.specs.declared.parts.Account.{Account}
-use Rattle.rules.specs.Codes.{Argument, Item, letter}
+use Rattle.rules.proofs.Arguments.{not-given, passed-given}
+use Rattle.rules.specs.Codes.{Argument, Item}
 use Rattle.rules.specs.Forged.{copied, given, gives}
-use Rattle.rules.specs.Items.{eachArgument, placed, slipIn}
-use Rattle.rules.specs.Step.{argumentsOf, codeOf}
+use Rattle.rules.specs.Items.{placed, slipIn}
+use Rattle.rules.specs.Step.{argumentsOf}
 use Rattle.arguments.proofs.Places.{in-table}
 use Rattle.messages.proofs.Picks.{no, yes}
-use Rattle.arguments.proofs.Takes.{six, six-arguments, tells}
 use Rattle.arguments.specs.Given.{foundIn}
 use Rattle.forged.specs.Outside.{Offers, accountIn, itemIn, numberIn, takenBy}
 use Rattle.arguments.specs.Ready.{Ready}
@@ -51,32 +51,6 @@ found-number k ks xs p e = ap number-at (e ∙ sym (yes Nothing (found k ks xs p
 pub lost : (k : Argument) (ks : List Argument) (xs : List ℕ) → Nothing ≡ foundIn k ks xs → gives k ks ≡ false
 unfolding is-at
 lost k ks xs e = sym (ap is-at e ∙ by-test (gives k ks) (given k ks xs))
-
--- what is not given has the number 0
-pub no-number : (k : Argument) (ks : List Argument) (xs : List ℕ) → gives k ks ≡ false → 0 ≡ given k ks xs
-no-number k [] xs e = refl
-no-number k (j ∷ js) [] e = refl
-no-number k (j ∷ js) (x ∷ xs) e = by (eqb (letter j) (letter k)) e (no-number k js xs)
-  where
-    by : (b : Bool) → (b || gives k js) ≡ false → (gives k js ≡ false → 0 ≡ given k js xs) → 0 ≡ cond b x (given k js xs)
-    by true f rec = absurd (true≢false f)
-    by false f rec = rec f
-
--- a test that all arguments pass is passed by one that is given
-same-letter : (j k : Argument) → eqb (letter j) (letter k) ≡ true → j ≡ k
-same-letter j k e = sym (tells j (letter k) (eqb-true _ _ e)) ∙ tells k (letter k) refl
-
-pub passed : (f : Argument → ℕ → Bool) (k : Argument) (ks : List Argument) (xs : List ℕ) → length ks ≡ length xs
-    → eachArgument f ks xs ≡ true → gives k ks ≡ true → f k (given k ks xs) ≡ true
-passed f k [] xs l h e = absurd (true≢false (sym e))
-passed f k (j ∷ js) [] l h e = absurd (omega arith)
-passed f k (j ∷ js) (x ∷ xs) l h e =
-    by (eqb (letter j) (letter k)) refl e (λ (w : gives k js ≡ true). passed f k js xs (omega arith) (right-of (f j x) _ h) w)
-  where
-    by : (b : Bool) → eqb (letter j) (letter k) ≡ b → (b || gives k js) ≡ true → (gives k js ≡ true → f k (given k js xs) ≡ true)
-        → f k (cond b x (given k js xs)) ≡ true
-    by true q w rec = subst (λ (i : Argument). f i x ≡ true) (same-letter j k q) (left-of (f j x) _ h)
-    by false q w rec = rec w
 
 pub no-message : (i : Item) (R : Record) (s : List ℕ) → Nothing ≡ foundIn (Argument.at i) (takenBy s) (argumentsOf s) → Offers i R s []
 unfolding itemIn
@@ -111,9 +85,7 @@ module _ {i : Item} {R : Record} {s : List ℕ} {m : Message} (offer : Offers i 
 
 module _ {n : ℕ} {t row s : List ℕ} (ready : Ready n t row s) where
   pub place-passed : (k : Argument) → gives k (takenBy s) ≡ true → placed n k (given k (takenBy s) (argumentsOf s)) ≡ true
-  place-passed k e =
-      passed (placed n) k (takenBy s) (argumentsOf s)
-      (six (codeOf s) (ready .known .low) (ready .known .high) ∙ sym (six-arguments (ready .known))) (ready .places) e
+  place-passed k e = passed-given k (placed n) (takenBy s) (argumentsOf s) (ready .places) e
 
   module _ (i : Item) (p : ℕ) (e : At p ≡ foundIn (Argument.at i) (takenBy s) (argumentsOf s)) where
     given-place : placed n (Argument.at i) p ≡ true
@@ -151,7 +123,7 @@ module _ {n : ℕ} {t row s : List ℕ} (ready : Ready n t row s) where
       where
         by : (b : Bool) → gives Argument.a (takenBy s) ≡ b → p ≤ n
         by true w = leb-true _ _ (subst (λ (x : ℕ). leb x n ≡ true) (sym e) (place-passed Argument.a w))
-        by false w = absurd (h (e ∙ sym (no-number Argument.a (takenBy s) (argumentsOf s) w)))
+        by false w = absurd (h (e ∙ not-given Argument.a (takenBy s) (argumentsOf s) w))
 
     pub account-safe : (1 ≤ p) × (p * messageWidth ≤ length t)
     account-safe = (positive p h, in-table ready given-account)

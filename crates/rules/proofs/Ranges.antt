@@ -7,7 +7,7 @@ use borrow.Author.Tests.{eqb-true}
 use lib.Dec.{eqb}
 use lib.ListN.{getD, length, replicate}
 use Rattle.messages.proofs.Chain.{left-of, right-of}
-use Rattle.lawful.specs.Lawful.{Range, buyers, codes, fits, gateways, hashedRanges, kindRanges, kinds, lawful, markRanges, sellers, slipRanges, unused, within}
+use Rattle.lawful.specs.Lawful.{Range, buyerSignedRanges, buyers, codes, fits, gateways, hashedRanges, invoiceSignedRanges, kindRanges, kinds, lawful, markRanges, replySignedRanges, requestSignedRanges, sellers, slipRanges, unused, within}
 use Rattle.messages.specs.Layout.{Kind, aPayment, anAuthRequest, anAuthResponse, anInitiate, anInvoice, filled, kindNumber, kindOf, messageWidth}
 use Rattle.messages.specs.Parts.{Message, hashedNumbers, markNumbers, slipNumbers}
 use Rattle.messages.specs.Signed.{buyerSignedNumbers, invoiceSignedNumbers, replySignedNumbers, requestSignedNumbers}
@@ -92,16 +92,16 @@ abbrev pub Slip✓ : Slip → Type 0
 Slip✓ y = fits slipRanges (slipNumbers y) ≡ true
 
 abbrev pub InvoiceSigned✓ : InvoiceSigned → Type 0
-InvoiceSigned✓ v = fits (sellers ∷ markRanges) (invoiceSignedNumbers v) ≡ true
+InvoiceSigned✓ v = fits invoiceSignedRanges (invoiceSignedNumbers v) ≡ true
 
 abbrev pub BuyerSigned✓ : BuyerSigned → Type 0
-BuyerSigned✓ p = fits (buyers ∷ (slipRanges ++ markRanges)) (buyerSignedNumbers p) ≡ true
+BuyerSigned✓ p = fits buyerSignedRanges (buyerSignedNumbers p) ≡ true
 
 abbrev pub RequestSigned✓ : RequestSigned → Type 0
-RequestSigned✓ q = fits (sellers ∷ (markRanges ++ slipRanges)) (requestSignedNumbers q) ≡ true
+RequestSigned✓ q = fits requestSignedRanges (requestSignedNumbers q) ≡ true
 
 abbrev pub ReplySigned✓ : ReplySigned → Type 0
-ReplySigned✓ g = fits (gateways ∷ codes ∷ markRanges) (replySignedNumbers g) ≡ true
+ReplySigned✓ g = fits replySignedRanges (replySignedNumbers g) ≡ true
 
 -- each kind: maker, source, destination, parts
 pub lawful-initiate : (by from : Buyer) (to : Seller) (h : Hashed) → within buyers (by .0) ≡ true → within buyers (from .0) ≡ true
@@ -114,31 +114,29 @@ pub lawful-invoice : (by from : Seller) (to : Buyer) (x : Mark) (v : InvoiceSign
     → within sellers (from .0) ≡ true → within buyers (to .0) ≡ true → Mark✓ x → InvoiceSigned✓ v
     → lawful (anInvoice by from to x v) ≡ true
 lawful-invoice by from to x v b f t e s =
-    fits-filled messageWidth (kinds ∷ sellers ∷ sellers ∷ buyers ∷ (markRanges ++ (sellers ∷ markRanges)))
+    fits-filled messageWidth (kinds ∷ sellers ∷ sellers ∷ buyers ∷ (markRanges ++ invoiceSignedRanges))
     (2 ∷ by .0 ∷ from .0 ∷ to .0 ∷ (markNumbers x ++ invoiceSignedNumbers v))
-    (both b (both f (both t (fits-append markRanges (sellers ∷ markRanges) (markNumbers x) (invoiceSignedNumbers v) e s))))
+    (both b (both f (both t (fits-append markRanges invoiceSignedRanges (markNumbers x) (invoiceSignedNumbers v) e s))))
 
 pub lawful-payment : (by from : Buyer) (to : Seller) (y : Slip) (p : BuyerSigned) → within buyers (by .0) ≡ true
     → within buyers (from .0) ≡ true → within sellers (to .0) ≡ true → Slip✓ y → BuyerSigned✓ p → lawful (aPayment by from to y p) ≡ true
 lawful-payment by from to y p b f t e s =
-    fits-filled messageWidth (kinds ∷ buyers ∷ buyers ∷ sellers ∷ (slipRanges ++ (buyers ∷ (slipRanges ++ markRanges))))
+    fits-filled messageWidth (kinds ∷ buyers ∷ buyers ∷ sellers ∷ (slipRanges ++ buyerSignedRanges))
     (3 ∷ by .0 ∷ from .0 ∷ to .0 ∷ (slipNumbers y ++ buyerSignedNumbers p))
-    (both b (both f (both t (fits-append slipRanges (buyers ∷ (slipRanges ++ markRanges)) (slipNumbers y) (buyerSignedNumbers p) e s))))
+    (both b (both f (both t (fits-append slipRanges buyerSignedRanges (slipNumbers y) (buyerSignedNumbers p) e s))))
 
 pub lawful-request : (by from : Seller) (to : Gateway) (x : Mark) (y : Slip) (q : RequestSigned) (p : BuyerSigned)
     → within sellers (by .0) ≡ true → within sellers (from .0) ≡ true → within gateways (to .0) ≡ true → Mark✓ x → Slip✓ y
     → RequestSigned✓ q → BuyerSigned✓ p → lawful (anAuthRequest by from to x y q p) ≡ true
 lawful-request by from to x y q p b f t e s sq sp =
     let markSlip = markRanges ++ slipRanges in
-    let seller = sellers ∷ (markRanges ++ slipRanges) in
-    let buyer = buyers ∷ (slipRanges ++ markRanges) in
-    fits-filled messageWidth (kinds ∷ sellers ∷ sellers ∷ gateways ∷ (markSlip ++ seller ++ buyer))
+    fits-filled messageWidth (kinds ∷ sellers ∷ sellers ∷ gateways ∷ (markSlip ++ requestSignedRanges ++ buyerSignedRanges))
     (4 ∷ by .0 ∷ from .0 ∷ to .0 ∷ (markNumbers x ++ slipNumbers y ++ requestSignedNumbers q ++ buyerSignedNumbers p))
     (both b
     (both f
     (both t
-    (fits-append (markSlip ++ seller) buyer (markNumbers x ++ slipNumbers y ++ requestSignedNumbers q) (buyerSignedNumbers p)
-    (fits-append markSlip seller (markNumbers x ++ slipNumbers y) (requestSignedNumbers q)
+    (fits-append (markSlip ++ requestSignedRanges) buyerSignedRanges (markNumbers x ++ slipNumbers y ++ requestSignedNumbers q) (buyerSignedNumbers p)
+    (fits-append markSlip requestSignedRanges (markNumbers x ++ slipNumbers y) (requestSignedNumbers q)
     (fits-append markRanges slipRanges (markNumbers x) (slipNumbers y) e s) sq)
     sp))))
 
@@ -146,5 +144,5 @@ pub lawful-reply : (by from : Gateway) (to : Seller) (c : ℕ) (g : ReplySigned)
     → within gateways (from .0) ≡ true → within sellers (to .0) ≡ true → within codes c ≡ true → ReplySigned✓ g
     → lawful (anAuthResponse by from to c g) ≡ true
 lawful-reply by from to c g b f t e s =
-    fits-filled messageWidth (kinds ∷ gateways ∷ gateways ∷ sellers ∷ codes ∷ gateways ∷ codes ∷ markRanges)
+    fits-filled messageWidth (kinds ∷ gateways ∷ gateways ∷ sellers ∷ codes ∷ replySignedRanges)
     (5 ∷ by .0 ∷ from .0 ∷ to .0 ∷ c ∷ replySignedNumbers g) (both b (both f (both t (both e s))))
