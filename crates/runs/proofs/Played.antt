@@ -14,6 +14,7 @@ use Rattle.messages.specs.Parts.{Message}
 use lib.Dec.{eqb, leb}
 use Rattle.record.specs.Table.{Record, messages, mostRoom, roomOf, whole, withMessage}
 use Rattle.rules.proofs.Accepted.{is-accepted}
+use Rattle.rules.proofs.Runs.{verdicts-length}
 use Rattle.rules.specs.Run.{over, played, stepCount, stepWidth, stepsOf, verdicts}
 use Rattle.rules.specs.Step.{Outcome, Step, accepted, judge, numberOf, recordAfter, refused}
 use Rattle.runs.specs.Ran.{OnePlayed, Plays}
@@ -78,11 +79,6 @@ after n t (accepted x) k count left h r l w =
       grows = omega (arith, w .counted);
       room = omega (arith, w .counted);
     }
-
-verdicts-long : (answers room : ℕ) (R : Record) (ss : List Step) → length (verdicts answers room R ss) ≡ length ss
-unfolding verdicts
-verdicts-long answers room R [] = refl
-verdicts-long answers room R (s ∷ ss) = ap suc (verdicts-long answers room (recordAfter R (judge answers room R s)) ss)
 
 -- after i steps: t and bytes as they are, n messages; t₀ and bytes₀ as they were lent
 pub record Going (answers : ℕ) (t₀ xs bytes₀ t bytes : List ℕ) (n i : ℕ) : Type 0 where
@@ -149,7 +145,7 @@ module _ (answers : ℕ) (t₀ xs bytes₀ t bytes : List ℕ) (n i : ℕ) (goin
       (subst (λ (r : ℕ). n ≤ r) (sym room-kept) (going .room)) l w′ in
       let number : k ≡ getD said i 0 =
       w′ .judged ∙ ap (λ (z : List ℕ). getD z 0 0) all-said ∙ getD-drop i said 0 0 ∙ ap (λ (j : ℕ). getD said j 0) (add-zero i) in
-      let many : length said ≡ stepCount xs = verdicts-long answers (roomOf t₀) [] (stepsOf xs) ∙ length-cut stepWidth (stepCount xs) xs in
+      let many : length said ≡ stepCount xs = verdicts-length answers (roomOf t₀) [] (stepsOf xs) ∙ length-cut stepWidth (stepCount xs) xs in
       record {
         long = l ∙ going .long;
         as-many = length-set bytes i k ∙ going .as-many;
@@ -193,7 +189,7 @@ pub over-and-done : (answers : ℕ) (t₀ xs bytes₀ t bytes : List ℕ) (n i :
 unfolding played
 over-and-done answers t₀ xs bytes₀ t bytes n i going e =
     let said = verdicts answers (roomOf t₀) [] (stepsOf xs) in
-    let many : length said ≡ i = verdicts-long answers (roomOf t₀) [] (stepsOf xs) ∙ length-cut stepWidth (stepCount xs) xs ∙ sym e in
+    let many : length said ≡ i = verdicts-length answers (roomOf t₀) [] (stepsOf xs) ∙ length-cut stepWidth (stepCount xs) xs ∙ sym e in
     let none : drop i (stepsOf xs) ≡ [] =
     drop-of-length-le (stepsOf xs) {i = i} (le-of-eq (length-cut stepWidth (stepCount xs) xs ∙ sym e)) in
     let record-is : messages n t ≡ played answers (roomOf t₀) [] (stepsOf xs) =
