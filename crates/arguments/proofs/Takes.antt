@@ -3,8 +3,8 @@
 use mathlib.Core.Bool.{Bool, true, false, _||_, cond}
 use mathlib.Core.List.{List, [], _∷_, map}
 use mathlib.Core.Path.{_≡_, _∙_, refl, sym, ap, ap₂, subst}
-use Prim.Native.Nat.{ℕ, zero, suc, _+_, _*_, _-_, _≤_, _<_}
-use native.Mathlib.Nat.{add-comm, le-of-eq, le-of-suc-le-suc, not-suc-le-zero}
+use Prim.Native.Nat.{ℕ, suc, _+_, _*_, _-_, _≤_, _<_}
+use native.Mathlib.Nat.{add-comm, le-of-eq}
 use native.Mathlib.Numerals.{add-one}
 use native.Mathlib.Omega.{arith}
 use lib.Dec.{eqb}
@@ -13,7 +13,7 @@ use lib.Seq.{drop-cons, getD-drop}
 use Rattle.messages.proofs.Chain.{bounds}
 use Rattle.messages.specs.Layout.{AuthRequest, AuthResponse, Initiate, Invoice, Payment}
 use Rattle.record.proofs.Cut.{cut-at, part}
-use Rattle.lawful.proofs.Rows.{even-at}
+use Rattle.lawful.proofs.Rows.{even-at, mapped}
 use Rattle.rules.specs.Codes.{Argument, Item, Row, known, letter, row, rowOf, rows, starts, unused}
 use Rattle.rules.specs.Forged.{given, gives}
 use Rattle.rules.specs.Step.{argumentsOf, codeOf}
@@ -28,12 +28,6 @@ takesOf x = x .takes
 
 abbrev none : Row
 none = row starts []
-
--- an entry of what a list is turned into, whatever stands for entries past its end
-mapped : {A B : Type 0} (f : A → B) (xs : List A) (k : ℕ) (d : A) (e : B) → k < length xs → getD (map f xs) k e ≡ f (getD xs k d)
-mapped f [] k d e h = absurd (not-suc-le-zero h)
-mapped f (x ∷ xs) zero d e h = refl
-mapped f (x ∷ xs) (suc k) d e h = mapped f xs k d e (le-of-suc-le-suc h)
 
 -- the lent table has six letters for each code, and those from a code's place on are its row
 pub lent-long : {lent : List ℕ} → lent ≡ tableLetters → length lent ≡ 222
@@ -100,8 +94,8 @@ known-step {s = s} l e r =
 pub argument-at : (s : List ℕ) (i : ℕ) → getD (argumentsOf s) i 0 ≡ getD s (i + 1) 0
 argument-at s i = getD-drop 1 s i 0 ∙ ap (λ (k : ℕ). getD s k 0) (add-comm 1 i)
 
-pub six-arguments : {row s : List ℕ} → Known row s → length (argumentsOf s) ≡ 6
-six-arguments {s = s} k = length-drop 1 s ∙ omega (arith, k .seven)
+pub six-arguments : (s : List ℕ) → length s ≡ 7 → length (argumentsOf s) ≡ 6
+six-arguments s e = length-drop 1 s ∙ omega (arith, e)
 
 -- one argument further in the search
 found-cons : (k j : Argument) (js : List Argument) (x : ℕ) (xs : List ℕ)
@@ -129,7 +123,7 @@ find-from {s = s} known k i l =
     let ks = rowOf (codeOf s) .takes in
     let xs = argumentsOf s in
     found-from k ks xs i (subst (λ (z : ℕ). i < z) (sym (six (codeOf s) (known .low) (known .high))) l)
-    (subst (λ (z : ℕ). i < z) (sym (six-arguments known)) l)
+    (subst (λ (z : ℕ). i < z) (sym (six-arguments s (known .seven))) l)
     ∙ ap₂ (λ (z y : ℕ). cond (eqb z (letter k)) (At y) (foundIn k (drop (i + 1) ks) (drop (i + 1) xs))) (sym (letter-at known i l)) (argument-at s i)
 
 -- past the last argument

@@ -57,7 +57,7 @@ module _ {n : ℕ} {t row s : List ℕ} (ready : Ready n t row s) where
       subst (λ (x : ℕ). placed n (getD (rowOf (codeOf s) .takes) i Argument.unused) x ≡ true) (argument-at s i)
       (passed-at (placed n) (rowOf (codeOf s) .takes) (argumentsOf s) i
       (subst (λ (z : ℕ). i < z) (sym (six (codeOf s) (ready .known .low) (ready .known .high))) h)
-      (subst (λ (z : ℕ). i < z) (sym (six-arguments (ready .known))) h) (ready .places))
+      (subst (λ (z : ℕ). i < z) (sym (six-arguments s (ready .known .seven))) h) (ready .places))
 
   -- argument i is the place of a message, by what the row of this code has there
   module _ (code i : ℕ) (e : codeOf s ≡ code) (h : i < 6)

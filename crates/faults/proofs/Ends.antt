@@ -13,6 +13,7 @@ use Rattle.messages.proofs.Chain.{left-of, right-of, skip}
 use Rattle.messages.specs.Tests.{all}
 use Rattle.record.proofs.Cut.{all-from}
 use Rattle.record.specs.Table.{Record}
+use Rattle.rules.proofs.Tests.{all-member, member-at}
 use Rattle.rules.specs.Codes.{Argument, Row, letter, row, rowOf, rows, starts, unused}
 use Rattle.rules.specs.Items.{eachArgument, holding, inRange, placed}
 use Rattle.rules.specs.Step.{argumentsOf, codeOf}
@@ -30,11 +31,6 @@ ends (k ∷ ks) = cond (isUnused k) (all isUnused ks) (ends ks)
 abbrev endsRow : Row → Bool
 endsRow x = ends (x .takes)
 
-all-at : {A : Type 0} (f : A → Bool) (xs : List A) (d : A) → all f xs ≡ true → (k : ℕ) → k < length xs → f (getD xs k d) ≡ true
-all-at f [] d e k h = absurd (not-suc-le-zero h)
-all-at f (x ∷ xs) d e zero h = left-of (f x) (all f xs) e
-all-at f (x ∷ xs) d e (suc k) h = all-at f xs d (right-of (f x) (all f xs) e) k (le-of-suc-le-suc h)
-
 all-drop : {A : Type 0} (f : A → Bool) (xs : List A) → all f xs ≡ true → (k : ℕ) → all f (drop k xs) ≡ true
 all-drop f xs e zero = e
 all-drop f [] e (suc k) = refl
@@ -42,7 +38,7 @@ all-drop f (x ∷ xs) e (suc k) = all-drop f xs (right-of (f x) (all f xs) e) k
 
 -- over the whole table at once
 row-ends : (code : ℕ) → 1 ≤ code → code ≤ 37 → ends (rowOf code .takes) ≡ true
-row-ends code l h = all-at endsRow rows (row starts []) refl (code - 1) (omega arith)
+row-ends code l h = all-member endsRow rows (rowOf code) refl (member-at rows (row starts []) (code - 1) (omega arith))
 
 from-unused : (ks : List Argument) (i : ℕ) → ends ks ≡ true → i < length ks → isUnused (getD ks i unused) ≡ true → all isUnused (drop i ks) ≡ true
 from-unused [] i e h u = absurd (not-suc-le-zero h)
@@ -92,7 +88,7 @@ ended n R {s = s} known i first z l e p low high inv =
     let long = six (codeOf s) (known .low) (known .high) in
     by z
     (faults-unused n R (drop i ks) (drop i (argumentsOf s))
-    (length-drop i ks ∙ ap (λ (m : ℕ). m - i) (long ∙ sym (six-arguments known)) ∙ sym (length-drop i (argumentsOf s)))
+    (length-drop i ks ∙ ap (λ (m : ℕ). m - i) (long ∙ sym (six-arguments s (known .seven))) ∙ sym (length-drop i (argumentsOf s)))
     (from-unused ks i (row-ends (codeOf s) (known .low) (known .high)) (subst (λ (m : ℕ). i < m) (sym long) l)
     (eq-eqb _ _ (sym (letter-at known i l) ∙ e)))
     ∙ ap (λ (b : Bool). cond b 9 3) (sym p))
@@ -103,14 +99,11 @@ ended n R {s = s} known i first z l e p low high inv =
     by false f = omega (arith, inv, f)
 
 -- the search for a number that is not 0, one argument further and past the last one
-arguments-long : (s : List ℕ) → length s ≡ 7 → length (argumentsOf s) ≡ 6
-arguments-long s e = length-drop 1 s ∙ omega (arith, e)
-
 pub zero-from : (s : List ℕ) (i : ℕ) → length s ≡ 7 → i < 6
     → all isZero (drop i (argumentsOf s)) ≡ (isZero (getD s (i + 1) 0) && all isZero (drop (i + 1) (argumentsOf s)))
 zero-from s i e l =
-    all-from isZero (argumentsOf s) 0 i (subst (λ (m : ℕ). i < m) (sym (arguments-long s e)) l)
+    all-from isZero (argumentsOf s) 0 i (subst (λ (m : ℕ). i < m) (sym (six-arguments s e)) l)
     ∙ ap (λ (x : ℕ). isZero x && all isZero (drop (i + 1) (argumentsOf s))) (argument-at s i)
 
 pub zero-over : (s : List ℕ) (i : ℕ) → length s ≡ 7 → i ≡ 6 → all isZero (drop i (argumentsOf s)) ≡ true
-zero-over s i e l = ap (all isZero) (drop-of-length-le (argumentsOf s) {i = i} (le-of-eq (arguments-long s e ∙ sym l)))
+zero-over s i e l = ap (all isZero) (drop-of-length-le (argumentsOf s) {i = i} (le-of-eq (six-arguments s e ∙ sym l)))

@@ -144,7 +144,7 @@ turn n R {s = s} known i f first next l e inv p =
     let xs = argumentsOf s in
     let from : faults n R (drop i ks) (drop i xs) ≡ min f (faults n R (drop (i + 1) ks) (drop (i + 1) xs)) =
     faults-from n R ks xs i (subst (λ (z : ℕ). i < z) (sym (six (codeOf s) (known .low) (known .high))) l)
-    (subst (λ (z : ℕ). i < z) (sym (six-arguments known)) l)
+    (subst (λ (z : ℕ). i < z) (sym (six-arguments s (known .seven))) l)
     ∙ ap (λ (z : ℕ). min z (faults n R (drop (i + 1) ks) (drop (i + 1) xs)))
     (ap (faultOf n R (getD ks i Argument.unused)) (argument-at s i) ∙ sym e) in
     lowest first f next (faults n R (drop i ks) (drop i xs)) (faults n R (drop (i + 1) ks) (drop (i + 1) xs)) (faults n R ks xs) from inv p

@@ -6,7 +6,7 @@ use Prim.Native.Nat.{ℕ, _+_, _*_, _<_}
 use native.Mathlib.Omega.{arith}
 use lib.ListN.{getD, length}
 use Rattle.messages.specs.Layout.{flat, messageWidth}
-use Rattle.lawful.proofs.Rows.{even, number-at, numbered}
+use Rattle.lawful.proofs.Rows.{even, mapped, numbered}
 use Rattle.lawful.specs.Lawful.{Range, accounts, buyers, codes, draws, gateways, kindRanges, kinds, letter, rangeLettered, sellers, spanOf, unused}
 use Rattle.lawful.specs.Lent.{ofSpans, positions}
 use Rattle.lawful.specs.declared.Span.{Span}
@@ -33,8 +33,8 @@ pub of-letter : (i : ℕ) (s : Span) → i < positions → s ≡ spanOf (rangeLe
     → (side : Span → ℕ) → side s ≡ getD (ofSpans side) i 0
 unfolding ofSpans
 of-letter i s h e side =
-    ap side (e ∙ ap spanOf (ap rangeLettered (number-at letter (flat kindRanges) unused i h) ∙ lettered (getD (flat kindRanges) i unused)))
-    ∙ sym (number-at (λ (r : Range). side (spanOf r)) (flat kindRanges) unused i h)
+    ap side (e ∙ ap spanOf (ap rangeLettered (mapped letter (flat kindRanges) i unused 0 h) ∙ lettered (getD (flat kindRanges) i unused)))
+    ∙ sym (mapped (λ (r : Range). side (spanOf r)) (flat kindRanges) i unused 0 h)
 
 -- position i of row k
 pub of-row : (side : Span → ℕ) (k i : ℕ) {l : List ℕ} → l ≡ ofSpans side → k < 5 → i < messageWidth

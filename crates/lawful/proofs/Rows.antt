@@ -9,7 +9,7 @@ use Rattle.messages.specs.Layout.{flat}
 use Rattle.messages.specs.Tests.{all}
 use Rattle.messages.proofs.Chain.{left-of, right-of}
 use native.Mathlib.Nat.{zero-add, add-assoc, suc-mul, zero-mul, not-suc-le-zero, le-of-suc-le-suc, add-comm}
-use lib.ListN.{List·getD-append, List·getD-map, getD, length}
+use lib.ListN.{List·getD-append, getD, length}
 use lib.Seq.{getD-append-add}
 
 -- every row has w entries
@@ -35,19 +35,14 @@ flat-at w (r ∷ rs) d ds e (suc k) i h l =
     ∙ getD-append-add r (flat rs) (k * w + i) d
     ∙ flat-at w rs d ds (right-of (eqb (length r) w) _ e) k i (le-of-suc-le-suc h) l
 
--- inside a list the default does not matter
-getD-any : {A : Type 0} (l : List A) (k : ℕ) (d d′ : A) → k < length l → getD l k d ≡ getD l k d′
-getD-any [] k d d′ h = absurd (not-suc-le-zero h)
-getD-any (x ∷ l) zero d d′ h = refl
-getD-any (x ∷ l) (suc k) d d′ h = getD-any l k d d′ (le-of-suc-le-suc h)
-
--- a list of numbers that stands for a list of data: the number at a place is that of what stands there
-pub number-at : {A : Type 0} (number : A → ℕ) (xs : List A) (d : A) (i : ℕ) → i < length (map number xs)
-    → getD (map number xs) i 0 ≡ number (getD xs i d)
-number-at number xs d i h = getD-any (map number xs) i 0 (number d) h ∙ List·getD-map number xs i d
+-- a list of what f tells of data: at a place it is what f tells of what stands there
+pub mapped : {A B : Type 0} (f : A → B) (xs : List A) (k : ℕ) (d : A) (e : B) → k < length xs → getD (map f xs) k e ≡ f (getD xs k d)
+mapped f [] k d e h = absurd (not-suc-le-zero h)
+mapped f (x ∷ xs) zero d e h = refl
+mapped f (x ∷ xs) (suc k) d e h = mapped f xs k d e (le-of-suc-le-suc h)
 
 -- a table of numbers that stands for rows of data: entry i of row k is the number of that entry
 pub numbered : {A : Type 0} (number : A → ℕ) (w : ℕ) (rows : List (List A)) (d : A) (ds : List A) → even w rows ≡ true → (k i : ℕ) → k < length rows → i < w
-    → k * w + i < length (map number (flat rows))
+    → k * w + i < length (flat rows)
     → getD (map number (flat rows)) (k * w + i) 0 ≡ number (getD (getD rows k ds) i d)
-numbered number w rows d ds e k i h l b = number-at number (flat rows) d (k * w + i) b ∙ ap number (flat-at w rows d ds e k i h l)
+numbered number w rows d ds e k i h l b = mapped number (flat rows) (k * w + i) d 0 b ∙ ap number (flat-at w rows d ds e k i h l)
