@@ -1,3 +1,3 @@
 // Messages built: a part written at its position, and each kind of message as its 48 numbers.
 pub mod build;
-pub mod put;
+mod put;

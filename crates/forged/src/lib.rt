@@ -1,3 +1,3 @@
 // The outsider's messages: what he copies or builds, and the message that a forged step adds.
 pub mod added;
-pub mod copied;
+mod copied;

@@ -1,4 +1,4 @@
 // A text and its lines: the bytes that part it, the line at a position, and the reader that hands one line over after the other.
 pub mod bytes;
-pub mod lines;
+mod lines;
 pub mod reader;

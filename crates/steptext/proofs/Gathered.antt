@@ -49,6 +49,13 @@ seven l h =
     let few = left-of (leb (length ps) stepWidth) true (right-of (all isNumber ps) (leb (length ps) stepWidth && true) (right-of (isEnded l) _ h)) in
     filled-long (map valueOf ps) (subst (λ (k : ℕ). k ≤ stepWidth) (sym (length-map ps valueOf)) (leb-true (length ps) stepWidth few))
 
+-- behind a line the reader is further on, and still in the text
+pub ahead : (text line : Text) (at : ℕ) → at < length text → line ≡ lineAt text at → (1 ≤ length line) × (at + length line ≤ length text)
+ahead text line at h e =
+    let w = line-within text at h in
+    let k = ap length e in
+    (omega arith, omega arith)
+
 flat-more : (ss : List Step) (s : Step) → flat (ss ++ s ∷ []) ≡ flat ss ++ s
 flat-more [] s = append-nil s
 flat-more (x ∷ ss) s = ap (λ (z : List ℕ). x ++ z) (flat-more ss s) ∙ sym (append-assoc x (flat ss) s)

@@ -75,8 +75,7 @@ returns-5 c =
 
 is-signed-by-buyer-requires : tie.Need-is-signed-by-buyer-requires
 is-signed-by-buyer-requires c κs =
-    let the-pre = c .before .before .before .before .before .before .before .before .before .before .before .before .before .before .before
-    .before .pre in
+    let the-pre = c .before .before .before .before .before .before .before .before .before .before .before .before .before .before .before .before .pre in
     omega (arith, the-pre)
 
 returns-6 : tie.Need-returns-6
@@ -93,10 +92,8 @@ returns-6 c =
     let the-slip-at = c .before .before .before .before .before .before .before .before .before .before .before .slip-at in
     let the-mark-at = c .before .before .before .before .before .before .before .before .before .before .before .before .mark-at in
     let the-if1 = c .before .before .before .before .before .before .before .before .before .before .before .before .before .before .if1 in
-    let the-is-for-house = c .before .before .before .before .before .before .before .before .before .before .before .before .before .before
-    .before .is-for-house in
-    let the-args = c .before .before .before .before .before .before .before .before .before .before .before .before .before .before .before
-    .before .before .args in
+    let the-is-for-house = c .before .before .before .before .before .before .before .before .before .before .before .before .before .before .before .is-for-house in
+    let the-args = c .before .before .before .before .before .before .before .before .before .before .before .before .before .before .before .before .before .args in
     skip (held (the-is-for-house .ensures) (the-if1 .left))
     (skip (held (the-mark-is .ensures) (the-if2 .left))
     (skip (held (the-same-mark .ensures) (the-if3 .left))

@@ -42,8 +42,7 @@ returns c =
     let the-message = c .before .before .before .before .message in
     let the-loop-test = c .before .before .before .before .before .loop-test in
     let the-loop = c .before .before .before .before .before .before .loop in
-    let the-args = c .before .before .before .before .before .before .before .before .before .before .before .before .before .before .before
-    .before .before .args in
+    let the-args = c .before .before .before .before .before .before .before .before .before .before .before .before .before .before .before .before .before .args in
     record {
       lawful = leaves (c .before .passes .result) _
           (test-next (passed (the-args .trusted)) (the-args .n) (the-args .t .now) (the-loop .i) _ (the-loop-test .taken)
@@ -57,8 +56,7 @@ loop-again c =
     let the-message = c .before .before .before .before .before .message in
     let the-loop-test = c .before .before .before .before .before .before .loop-test in
     let the-loop = c .before .before .before .before .before .before .before .loop in
-    let the-args = c .before .before .before .before .before .before .before .before .before .before .before .before .before .before .before
-    .before .before .before .args in (
+    let the-args = c .before .before .before .before .before .before .before .before .before .before .before .before .before .before .before .before .before .before .args in (
       omega arith,
       goes-on (the-passes .result) _
           (test-next (passed (the-args .trusted)) (the-args .n) (the-args .t .now) (the-loop .i) _ (the-loop-test .taken)

@@ -13,8 +13,7 @@ returns c =
     λ i. record {
       key = gatewayAt (the-args .m .now) (the-args .k);
       mark = the-mark-at .ensures i;
-      account = accountAt (the-args .m .now)
-          (the-args .k + 1 + markWidth);
+      account = accountAt (the-args .m .now) (the-args .k + 1 + markWidth);
       drawn = the-drawn-at .ensures i;
     }
 

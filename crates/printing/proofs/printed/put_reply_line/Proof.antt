@@ -10,14 +10,10 @@ returns c =
     let the-put-byte2 = c .before .before .put-byte2 in
     let the-put-cell4 = c .before .before .before .before .before .before .put-cell4 in
     let the-put-cell3 = c .before .before .before .before .before .before .before .before .before .before .put-cell3 in
-    let the-put-cell2 = c .before .before .before .before .before .before .before .before .before .before .before .before .before .before
-    .put-cell2 in
-    let the-put-cell = c .before .before .before .before .before .before .before .before .before .before .before .before .before .before
-    .before .before .before .before .put-cell in
-    let the-put-byte = c .before .before .before .before .before .before .before .before .before .before .before .before .before .before
-    .before .before .before .before .before .before .before .before .put-byte in
-    let the-pre = c .before .before .before .before .before .before .before .before .before .before .before .before .before .before .before
-    .before .before .before .before .before .before .before .before .before .before .pre in
+    let the-put-cell2 = c .before .before .before .before .before .before .before .before .before .before .before .before .before .before .put-cell2 in
+    let the-put-cell = c .before .before .before .before .before .before .before .before .before .before .before .before .before .before .before .before .before .before .put-cell in
+    let the-put-byte = c .before .before .before .before .before .before .before .before .before .before .before .before .before .before .before .before .before .before .before .before .before .before .put-byte in
+    let the-pre = c .before .before .before .before .before .before .before .before .before .before .before .before .before .before .before .before .before .before .before .before .before .before .before .before .before .pre in
     then (omega arith) (the-put-byte .ensures)
     (then (omega arith) (the-put-cell .ensures)
     (then (omega arith) (the-put-cell2 .ensures)

@@ -17,8 +17,7 @@ returns c =
     let the-put-byte = c .before .before .put-byte in
     let the-put-cell2 = c .before .before .before .before .before .before .put-cell2 in
     let the-put-cell = c .before .before .before .before .before .before .before .before .before .before .put-cell in
-    let the-put-number = c .before .before .before .before .before .before .before .before .before .before .before .before .before .before
-    .put-number in
+    let the-put-number = c .before .before .before .before .before .before .before .before .before .before .before .before .before .before .put-number in
     then (omega arith) (the-put-number .ensures)
     (then (omega arith) (the-put-cell .ensures) (then (omega arith) (the-put-cell2 .ensures) (the-put-byte .ensures)))
 

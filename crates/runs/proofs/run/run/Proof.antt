@@ -47,8 +47,7 @@ returns-4 c =
     let the-are-whole-steps = c .before .before .before .before .before .before .before .before .before .are-whole-steps in
     let the-if1 = c .before .before .before .before .before .before .before .before .before .before .if1 in
     let the-is-whole = c .before .before .before .before .before .before .before .before .before .before .before .is-whole in
-    let the-args = c .before .before .before .before .before .before .before .before .before .before .before .before .before .before .before
-    .before .args in
+    let the-args = c .before .before .before .before .before .before .before .before .before .before .before .before .before .before .before .before .args in
     plays (the-args .answers) (the-args .t .now) (the-args .steps .now) (the-args .verdicts .now)
     (held (the-is-whole .ensures) (the-if1 .left)) (held (the-are-whole-steps .ensures) (the-if2 .left)) (the-play .result)
     (the-play .last .0) (the-play .last .1 .1 .1 .0)

@@ -55,10 +55,8 @@ returns-3 c =
     let the-if1 = c .before .before .before .before .before .before .before .before .if1 in
     let the-room = c .before .before .before .before .before .before .before .before .before .room in
     let the-is-allowed = c .before .before .before .before .before .before .before .before .before .before .before .is-allowed in
-    let the-args = c .before .before .before .before .before .before .before .before .before .before .before .before .before .before .before
-    .before .args in
-    let the-pre = c .before .before .before .before .before .before .before .before .before .before .before .before .before .before .before
-    .before .pre in
+    let the-args = c .before .before .before .before .before .before .before .before .before .before .before .before .before .before .before .before .args in
+    let the-pre = c .before .before .before .before .before .before .before .before .before .before .before .before .before .before .before .before .pre in
     let told = the-is-allowed .ensures (the-args .n) (without-row (the-pre .1)) in
     let more = leb-false (the-room .result) (the-args .n) (the-if2 .left) in
     let some = lt-ltb (the-args .n) (roomOf (the-args .t .now)) (omega (arith, more, the-room .ensures)) in

@@ -8,8 +8,7 @@ use native.Mathlib.Omega.{arith}
 use Rattle.messages.proofs.Chain.{failed, held}
 use Rattle.record.specs.Table.{withNumbers}
 use Rattle.rules.specs.Run.{stepWidth}
-use Rattle.steptext.proofs.Gathered.{Going, begin, numbers-are, over-and-done, readable-is, refused-line, refused-text, seven, turn}
-use Rattle.lines.proofs.Parted.{line-within}
+use Rattle.steptext.proofs.Gathered.{Going, ahead, begin, numbers-are, over-and-done, readable-is, refused-line, refused-text, seven, turn}
 use Rattle.steptext.proofs.read.gather.Statement.{statement}
 use Rattle.steptext.proofs.read.gather.Tie as tie
 
@@ -90,21 +89,13 @@ add-at : tie.Need-add-at Inv-loop μ-loop
 add-at c =
     let the-next-line = c .before .before .before .before .before .before .before .before .before .before .next-line in
     let the-loop-test = c .before .before .before .before .before .before .before .before .before .before .before .loop-test in
-    let the-loop = c .before .before .before .before .before .before .before .before .before .before .before .before .loop in
-    let the-args = c .before .before .before .before .before .before .before .before .before .before .before .before .before .before .before .args in
-    let w = line-within (the-args .text .now) (the-loop .at) (the-loop-test .taken) in
-    let e = ap length (the-next-line .ensures) in
-    omega arith
+    omega (arith, ahead _ _ _ (the-loop-test .taken) (the-next-line .ensures))
 
 loop-less : tie.Need-loop-less Inv-loop μ-loop
 loop-less c =
     let the-next-line = c .before .before .before .before .before .before .before .before .before .before .next-line in
     let the-loop-test = c .before .before .before .before .before .before .before .before .before .before .before .loop-test in
-    let the-loop = c .before .before .before .before .before .before .before .before .before .before .before .before .loop in
-    let the-args = c .before .before .before .before .before .before .before .before .before .before .before .before .before .before .before .args in
-    let w = line-within (the-args .text .now) (the-loop .at) (the-loop-test .taken) in
-    let e = ap length (the-next-line .ensures) in
-    omega arith
+    omega (arith, ahead _ _ _ (the-loop-test .taken) (the-next-line .ensures))
 
 loop-again : tie.Need-loop-again Inv-loop μ-loop
 loop-again c =

@@ -48,13 +48,10 @@ returns-4 c =
     let the-gather = c .before .before .before .before .before .before .before .before .gather in
     let the-said = c .before .before .before .before .before .before .before .before .before .before .before .said in
     let the-answers-said = c .before .before .before .before .before .before .before .before .before .before .before .before .before .answers-said in
-    let the-next-line = c .before .before .before .before .before .before .before .before .before .before .before .before .before .before
-    .next-line in
+    let the-next-line = c .before .before .before .before .before .before .before .before .before .before .before .before .before .before .next-line in
     let the-if2 = c .before .before .before .before .before .before .before .before .before .before .before .before .before .before .before .if2 in
-    let the-if1 = c .before .before .before .before .before .before .before .before .before .before .before .before .before .before .before
-    .before .if1 in
-    let the-args = c .before .before .before .before .before .before .before .before .before .before .before .before .before .before .before
-    .before .before .before .before .args in
+    let the-if1 = c .before .before .before .before .before .before .before .before .before .before .before .before .before .before .before .before .if1 in
+    let the-args = c .before .before .before .before .before .before .before .before .before .before .before .before .before .before .before .before .before .before .before .args in
     all-gathered (the-args .text .now) (the-args .steps .now) (the-if1 .left) (the-if2 .left) (the-said .given .0 .0)
     (sym (the-said .given .1) ∙ the-answers-said .ensures ∙ ap answersSaid (the-next-line .ensures)) (the-gather .result)
     (the-gather .last .1 .1 .1 .0) _
