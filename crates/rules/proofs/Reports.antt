@@ -58,27 +58,26 @@ agreed-report R x a =
     record { agreed = (λ q. not-out, λ n. is-20); outsider = (λ q. absurd (omega arith), λ b. absurd (not-out b)) })
 
 -- at each house reply of a reached record, and of a table that holds one
-reported : (answers room : ℕ) (R : Record) → Reached answers room R → (p : Place) → HouseReplyAt R p
-    → Reported (paymentAt R p) (reportAt R p)
-reported answers room R r p h = agreed-report (earlier R p) (paymentAt R p) (agreement answers room R r p h)
+reported : (room : ℕ) (R : Record) → Reached room R → (p : Place) → HouseReplyAt R p → Reported (paymentAt R p) (reportAt R p)
+reported room R r p h = agreed-report (earlier R p) (paymentAt R p) (agreement room R r p h)
 
 pub reports : Reports
 unfolding report
-reports answers n t h p r =
+reports n t h p r =
     let R = messages n t in
     let inside : between 1 (p .0) n ≡ true = ap (between 1 (p .0)) (sym (length-cut messageWidth n t)) ∙ r .inside in
     subst (Reported (paymentAt R p))
-    (sym (passes (λ k. k) (reportAt R p) (reportGates n t p) (table-lawful answers n t h, (inside, (r .reply, tt)))))
-    (reported answers (roomOf t) R (h .reached) p r)
+    (sym (passes (λ k. k) (reportAt R p) (reportGates n t p) (table-lawful n t h, (inside, (r .reply, tt)))))
+    (reported (roomOf t) R (h .reached) p r)
 
 -- 22 never occurs, whatever place is asked about
 pub never-22 : Never22
 unfolding report
-never-22 answers n t h p e =
+never-22 n t h p e =
     let R = messages n t in
     let o = all-open (λ k. k) (reportAt R p) (λ (k : ℕ). k ≡ 22) (λ k l q. omega arith) (reportGates n t p) refl e in
     let r : HouseReplyAt R p =
     record { inside = ap (between 1 (p .0)) (length-cut messageWidth n t) ∙ o .0 .1 .0; reply = o .0 .1 .1 .0 }
     in
-    let said = reported answers (roomOf t) R (h .reached) p r in
+    let said = reported (roomOf t) R (h .reached) p r in
     omega (arith, o .1, said .agreed .1 (λ b. omega (arith, o .1, said .outsider .1 b)))
