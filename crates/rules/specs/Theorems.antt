@@ -3,19 +3,20 @@
 -- answers at each step. Where each is proved is said beside it.
 use Prim.Native.Nat.{ℕ, _≤_}
 use mathlib.Core.Bool.{true}
-use mathlib.Core.List.{List, [], _++_}
+use mathlib.Core.List.{List, List·Memᴰ, [], _++_}
 use mathlib.Core.Path.{_≡_}
 use lib.ListN.{length, take}
 use Rattle.lawful.specs.Lawful.{buyers, lawful, sellers, within}
 use Rattle.record.specs.Table.{Record, lawfulRecord, messages, mostRoom, roomOf, whole}
 use Rattle.messages.specs.Tests.{all}
 use Rattle.messages.specs.declared.parts.Place.{Place}
-use Rattle.rules.specs.Agreed.{Agreed, BothOutside, HouseReplyAt, Reported}
+use Rattle.rules.specs.Agreed.{Agreed, BothOutside, HouseReplyAt, Reported, RowReported}
 use Rattle.rules.specs.Hosted.{Use, used}
 use Rattle.rules.specs.Promised.{Kept}
 use Rattle.rules.specs.Reached.{HoldsReached, Reached}
 use Rattle.rules.specs.Report.{earlier, paymentAt, report}
 use Rattle.rules.specs.Run.{Call, judgeCall, played, run}
+use Rattle.rules.specs.Said.{replyRows}
 use Rattle.rules.specs.Session.{Completed, RoomAtEach, Setting}
 use Rattle.rules.specs.Step.{Step, countAfter, judgeTable, recordAfter, tableAfter}
 
@@ -47,6 +48,11 @@ Reports =
 
 abbrev pub Never22 : Type 0
 Never22 = (n : ℕ) (t : List ℕ) → HoldsReached n t → (p : Place) → ¬ (report n t p ≡ 22)
+
+-- So of every house reply of a reached record the row that is printed ends in 20 or 21, and 21 exactly for the outsider with himself.
+-- (proofs/Reports)
+abbrev pub RowsReported : Type 0
+RowsReported = (room : ℕ) (R : Record) → Reached room R → (row : List ℕ) → List·Memᴰ row (replyRows R 0 R) → RowReported row
 
 -- Every message of a reached record is lawful, for room up to 512; so a run never meets refusal 1, and a step on a table that holds a reached
 -- record says what the run said. (proofs/LawfulReached)
