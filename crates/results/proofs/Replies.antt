@@ -1,7 +1,7 @@
 -- Every line that the program prints and that begins with `R` is that of a house reply, with report 20 or 21: the lines of steps begin with a
 -- digit, that of a refused text with `E`, and the record is a reached one.
 use mathlib.Core.Bool.{Bool, true, false}
-use mathlib.Core.List.{List, List·Memᴰ, List·Memᴰ·cases-cons, List·Memᴰ·not-nil, [], _∷_, _++_, append-nil}
+use mathlib.Core.List.{List, List·Memᴰ, List·Memᴰ·cases-cons, List·Memᴰ·not-nil, [], _∷_, append-nil}
 use mathlib.Core.Logic.{_⊎_, inl, inr, ⊎-elim}
 use mathlib.Core.Path.{_≡_, _∙_, refl, sym, ap, subst}
 use Prim.Native.Nat.{ℕ, _+_}
@@ -17,7 +17,6 @@ use Rattle.printing.specs.Printed.{letterR, linesOf, refusedLine, replyLine, st
 use Rattle.record.specs.Table.{Record, mostRoom}
 use Rattle.results.specs.Output.{output, reading, results, resultsOf}
 use Rattle.results.specs.Replies.{RepliesPrinted, ReplyPrinted}
-use Rattle.results.specs.Shown.{Shows}
 use Rattle.rules.proofs.Reached.{reached-played}
 use Rattle.rules.proofs.Reports.{rows-reported}
 use Rattle.rules.specs.Agreed.{Reported, RowReported}

@@ -1,10 +1,10 @@
 -- The theorems hold of whatever a run leaves in the table that it was lent: cut into messages, it is the record that the steps lead to.
 use mathlib.Core.Bool.{false, true, true≢false}
 use mathlib.Core.List.{List, [], _∷_, _++_}
-use mathlib.Core.Path.{_≡_, _∙_, refl, sym, ap, ap₂, subst, subst₂}
-use Prim.Native.Nat.{ℕ, suc, _+_, _*_, _/_, _%_, _≤_}
+use mathlib.Core.Path.{_≡_, _∙_, refl, sym, ap, ap₂, subst}
+use Prim.Native.Nat.{ℕ, suc, _+_, _/_, _%_, _≤_}
 use borrow.Author.Tests.{eqb-true}
-use lib.Dec.{eqb, leb}
+use lib.Dec.{eqb}
 use lib.ListN.{List·getD-append, drop, getD, length, length-append, length-drop, take}
 use native.Mathlib.Omega.{arith}
 use Rattle.messages.proofs.Chain.{left-of}
@@ -12,7 +12,7 @@ use Rattle.record.proofs.Cut.{cut-append, length-cut}
 use Rattle.record.proofs.Flat.{AllLong, cut-flat, flat-length}
 use Rattle.messages.specs.Layout.{flat, messageWidth}
 use Rattle.messages.specs.Parts.{Message}
-use Rattle.record.specs.Table.{Record, cut, messages, mostRoom, roomOf, whole}
+use Rattle.record.specs.Table.{Record, cut, messages, roomOf, whole}
 use Rattle.rules.proofs.Gates.{Open, all-open, either-way, passes}
 use Rattle.rules.proofs.LawfulReached.{holds-as, reached-room, step-as-run, table-lawful}
 use Rattle.rules.proofs.Reached.{called-append, prefixes, reached-played}
