@@ -81,7 +81,7 @@ copy-reached n t u h e fits same-messages =
     }
 
 -- a run leaves a reached record, or the table as it was
-run-used : (answers : ℕ) (l : Lent) (xs bytes : List ℕ) → HoldsReached (l .n) (l .table) → (b : Bool) → eqb (run answers (l .table) xs bytes .number) 0 ≡ b
+pub run-used : (answers : ℕ) (l : Lent) (xs bytes : List ℕ) → HoldsReached (l .n) (l .table) → (b : Bool) → eqb (run answers (l .table) xs bytes .number) 0 ≡ b
     → HoldsReached (cond b (run answers (l .table) xs bytes .n) (l .n)) (run answers (l .table) xs bytes .table)
 run-used answers l xs bytes h true e = run-keeps answers (l .table) xs bytes (eqb-true _ _ e) .held
 run-used answers l xs bytes h false e = subst (HoldsReached (l .n)) (sym (run-refused answers (l .table) xs bytes e)) h
