@@ -87,7 +87,7 @@ all-more : (xs : Text) (x : ℕ) → all isDigit xs ≡ true → isDigit x ≡ t
 all-more [] x h e = sym (skip e refl)
 all-more (y ∷ xs) x h e = sym (skip (left-of (isDigit y) (all isDigit xs) h) (sym (all-more xs x (right-of (isDigit y) (all isDigit xs) h) e)))
 
-all-digits : (f n : ℕ) → all isDigit (digits f n) ≡ true
+pub all-digits : (f n : ℕ) → all isDigit (digits f n) ≡ true
 unfolding digits
 all-digits zero n = refl
 all-digits (suc f) n =

@@ -7,7 +7,7 @@ use Prim.Native.Nat.{ℕ, zero, suc, _+_, _*_, _-_, _≤_, _<_}
 use native.Mathlib.Nat.{add-comm, add-zero, le-of-eq, le-of-suc-le-suc, not-suc-le-zero, suc-add, suc-mul, zero-add, zero-mul}
 use native.Mathlib.Numerals.{add-one}
 use native.Mathlib.Omega.{arith}
-use lib.ListN.{drop, drop-of-length-le, getD, length, length-drop, length-take, take, take-append-drop}
+use lib.ListN.{drop, drop-of-length-le, getD, length, length-append, length-drop, length-take, take, take-append-drop}
 use lib.Seq.{drop-append-le, drop-cons, drop-drop, length-take-le, take-append-le, take-at}
 use Rattle.messages.specs.Layout.{messageWidth}
 use Rattle.messages.specs.Parts.{Message}
@@ -85,6 +85,20 @@ messages-with n t m h l =
     ∙ ap (λ (R : List Message). R ++ (m ∷ []))
     (sym (cut-front messageWidth n (take (n * messageWidth) t) (drop (n * messageWidth) t) k)
     ∙ ap (messages n) (take-append-drop (n * messageWidth) t))
+
+-- and leaves the table as long as it was
+pub with-length : (n : ℕ) (t : List ℕ) (m : Message) → n * messageWidth + messageWidth ≤ length t → length m ≡ messageWidth
+    → length (withMessage n t m) ≡ length t
+with-length n t m h l =
+    let front = take (n * messageWidth) t in
+    let back = drop (n * messageWidth + messageWidth) t in
+    length-append (front ++ m) back
+    ∙ omega (
+      arith,
+      length-append front m,
+      length-take-le (n * messageWidth) t (omega arith),
+      length-drop (n * messageWidth + messageWidth) t,
+    )
 
 -- one piece more
 pub cut-next : (w n : ℕ) (t : List ℕ) → cut w (suc n) t ≡ cut w n t ++ (take w (drop (n * w) t) ∷ [])

@@ -1,3 +1,4 @@
 pub mod Playing
+pub mod Replies
 pub mod Showing
 pub mod Told

@@ -1,2 +1,3 @@
 pub mod Output
+pub mod Replies
 pub mod Shown

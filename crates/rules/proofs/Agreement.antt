@@ -159,7 +159,8 @@ module _ (answers room : ℕ) (R : Record) (ks : List Argument) (xs : List ℕ) 
 
 -- a reply entered the record by a step, on the messages earlier than it, which are a reached record too
 pub agreement : Agreement
-agreement answers room R r p h =
-    let e = history answers room R r (p .0 - 1) (omega (arith, bounds 1 (p .0) (length R) (h .inside))) in
-    by-deed answers room (earlier R p) (e .step) (messageAt R p) (AgreedOn (earlier R p)) (e .entered)
-    (λ d ks xs. deed-agreed answers room (earlier R p) ks xs (reached-sound answers room (earlier R p) (e .reached)) d) (h .reply)
+agreement room R r p h =
+    let e = history room R r (p .0 - 1) (omega (arith, bounds 1 (p .0) (length R) (h .inside))) in
+    let answers = e .call .answers in
+    by-deed answers room (earlier R p) (e .call .step) (messageAt R p) (AgreedOn (earlier R p)) (e .entered)
+    (λ d ks xs. deed-agreed answers room (earlier R p) ks xs (reached-sound room (earlier R p) (e .reached)) d) (h .reply)

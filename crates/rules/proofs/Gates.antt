@@ -5,6 +5,7 @@ use mathlib.Core.Path.{_≡_, _∙_, refl, ap}
 use Prim.Native.Nat.{ℕ, _≤_}
 use Rattle.messages.proofs.Chain.{bounds, left-of, right-of}
 use Rattle.messages.specs.Tests.{all, between}
+use Rattle.rules.proofs.Tests.{picked}
 use Rattle.rules.specs.Gates.{Gate, through}
 
 -- each gate stands open
@@ -20,6 +21,12 @@ module _ {A : Type 0} (shut : ℕ → A) (passed : A) where
   pub passes : (gs : List Gate) → Open gs → through gs shut passed ≡ passed
   passes [] o = refl
   passes (g ∷ gs) o = ap (λ (b : Bool). cond b (through gs shut passed) (shut (g .number))) (o .0) ∙ passes gs (o .1)
+
+  -- what holds of each refusal and of what passes, holds of what comes out
+  pub either-way : (P : A → Type 0) → ((k : ℕ) → P (shut k)) → P passed → (gs : List Gate) → P (through gs shut passed)
+  either-way P s p [] = p
+  either-way P s p (g ∷ gs) =
+      picked P (g .stands-open) (through gs shut passed) (shut (g .number)) (λ e. either-way P s p gs) (λ e. s (g .number))
 
   -- where what came out, P, is what no refusal gives
   module _ (P : A → Type 0) (never : (k : ℕ) → (1 ≤ k) × (k ≤ 11) → P (shut k) → ⊥) where

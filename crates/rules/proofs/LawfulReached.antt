@@ -3,10 +3,10 @@
 use mathlib.Core.Bool.{Bool, true, false, cond, _&&_, _||_, or-true, true≢false}
 use mathlib.Core.List.{List, [], _∷_, _++_}
 use mathlib.Core.Logic.{⊎-elim}
-use mathlib.Core.Path.{_≡_, _∙_, refl, sym, ap}
-use Prim.Native.Nat.{ℕ, _%_, _*_, _+_, _≤_}
+use mathlib.Core.Path.{_≡_, _∙_, refl, sym, ap, subst}
+use Prim.Native.Nat.{ℕ, _%_, _*_, _+_, _/_, _≤_}
 use borrow.Author.Tests.{eqb-false, le-leb, leb-true}
-use lib.Dec.{eqb}
+use lib.Dec.{eqb, leb}
 use lib.ListN.{length, length-append}
 use native.Mathlib.Omega.{arith}
 use Rattle.messages.proofs.Chain.{inside, left-of, right-of}
@@ -15,7 +15,7 @@ use Rattle.lawful.specs.Lawful.{Range, accounts, buyers, codes, draws, fits, la
 use Rattle.messages.specs.Layout.{AuthRequest, AuthResponse, Initiate, Invoice, Kind, Payment, body, destination, invoiceSigned, messageWidth, paymentSigned, replySigned, requestBuyerSigned, requestSigned, requestSlip, source}
 use Rattle.messages.specs.Parts.{Message, accountOf, buyerAt, drawnAt, drawnNumbers, drawnWidth, hashedAt, hashedWidth, markAt, markNumbers, markWidth, sellerAt, slipAt, slipNumbers, slipWidth}
 use Rattle.messages.specs.Signed.{buyerSignedAt, buyerSignedWidth, invoiceSignedWidth, replySignedWidth, requestSignedWidth}
-use Rattle.record.specs.Table.{Record, messageAt, messages, mostRoom, roomOf}
+use Rattle.record.specs.Table.{Record, messageAt, messages, mostRoom, roomOf, whole}
 use Rattle.messages.specs.Tests.{all}
 use Rattle.messages.specs.declared.parts.Account.{Account}
 use Rattle.messages.specs.declared.parts.Buyer.{Buyer}
@@ -34,8 +34,9 @@ use Rattle.rules.specs.Codes.{Argument, Deed, Item, asks, forges, invoic
 use Rattle.rules.specs.Forged.{account, buyer, buyerSignature, code, drawn, given, gives, hashed, invoiceSignature, itemOr, mark, noBuyer, noGateway, noSeller, replySignature, requestSignature, seller, slip}
 use Rattle.rules.specs.Honest.{codeFor, good, house, markFor, orderMark, slipUnder}
 use Rattle.rules.specs.Items.{buyerSignedIn, drawnIn, hasSlip, hashedIn, holding, inRange, invoiceSignedIn, isKind, markIn, placed, readable, replySignedIn, requestSignedIn, slipIn, yields}
-use Rattle.rules.specs.Reached.{Reached}
-use Rattle.rules.specs.Step.{Step, accepted, added, judge, judgeTable, refused, theBuyer, theInitiate, theInvoice, thePayment, theRequest, theSeller}
+use Rattle.rules.specs.Reached.{HoldsReached, Reached}
+use Rattle.rules.specs.Run.{Call, judgeCall}
+use Rattle.rules.specs.Step.{accepted, added, judgeTable, refused, theBuyer, theInitiate, theInvoice, thePayment, theRequest, theSeller}
 use Rattle.rules.specs.Theorems.{ReachedLawful, StepAsRun, TableLawful}
 
 abbrev Account✓ : Account → Type 0
@@ -275,31 +276,40 @@ module _ (answers room : ℕ) (small : room ≤ mostRoom) (R : Record) (ks : Lis
 
 -- every message of a reached record is lawful
 pub reached-lawful : ReachedLawful
-reached-lawful answers room small R r = kept-reached answers room (λ (T : Record). all lawful T ≡ true) keep R r refl
+reached-lawful room small R r = kept-reached room (λ (T : Record). all lawful T ≡ true) keep R r refl
   where
-    keep : (T : Record) (s : Step) (x : Message) → all lawful T ≡ true → judge answers room T s ≡ accepted x → all lawful (T ++ (x ∷ [])) ≡ true
-    keep T s x p e =
+    keep : (T : Record) (c : Call) (x : Message) → all lawful T ≡ true → judgeCall room T c ≡ accepted x → all lawful (T ++ (x ∷ [])) ≡ true
+    keep T c x p e =
+        let answers = c .answers in
         all-append lawful T (x ∷ []) p
-        (both (by-deed answers room T s x (λ (y : Message). lawful y ≡ true) e (λ d ks xs. lawful-added answers room small T ks xs p d)) refl)
+        (both (by-deed answers room T (c .step) x (λ (y : Message). lawful y ≡ true) e (λ d ks xs. lawful-added answers room small T ks xs p d)) refl)
 
 -- a reached record has no more messages than room
-pub reached-room : (answers room : ℕ) (R : Record) → Reached answers room R → length R ≤ room
-reached-room answers room R r = kept-reached answers room (λ (T : Record). length T ≤ room) keep R r (omega arith)
+pub reached-room : (room : ℕ) (R : Record) → Reached room R → length R ≤ room
+reached-room room R r = kept-reached room (λ (T : Record). length T ≤ room) keep R r (omega arith)
   where
-    keep : (T : Record) (s : Step) (x : Message) → length T ≤ room → judge answers room T s ≡ accepted x → length (T ++ (x ∷ [])) ≤ room
-    keep T s x p e = omega (arith, is-accepted answers room T s x e .passed .roomy, length-append T (x ∷ []))
+    keep : (T : Record) (c : Call) (x : Message) → length T ≤ room → judgeCall room T c ≡ accepted x → length (T ++ (x ∷ [])) ≤ room
+    keep T c x p e = omega (arith, is-accepted (c .answers) room T (c .step) x e .passed .roomy, length-append T (x ∷ []))
+
+-- a table as long as one of whole messages, with the record that was reached in that one's room
+pub holds-as : (n : ℕ) (t u : List ℕ) → length u ≡ length t → whole t ≡ true → Reached (roomOf t) (messages n u) → HoldsReached n u
+holds-as n t u l e r =
+    record {
+      measured = ap (λ (k : ℕ). eqb (k % messageWidth) 0 && leb k (mostRoom * messageWidth)) l ∙ e;
+      reached = subst (λ (k : ℕ). Reached k (messages n u)) (ap (λ (k : ℕ). k / messageWidth) (sym l)) r;
+    }
 
 -- refusal 1 is not met
 pub table-lawful : TableLawful
-table-lawful answers n t h =
+table-lawful n t h =
     let R = messages n t in
     let most = leb-true (length t) (mostRoom * messageWidth) (right-of (eqb (length t % messageWidth) 0) _ (h .measured)) in
     both (h .measured)
-    (both (le-leb n (roomOf t) (omega (arith, reached-room answers (roomOf t) R (h .reached), length-cut messageWidth n t)))
-    (reached-lawful answers (roomOf t) (omega arith) R (h .reached)))
+    (both (le-leb n (roomOf t) (omega (arith, reached-room (roomOf t) R (h .reached), length-cut messageWidth n t)))
+    (reached-lawful (roomOf t) (omega arith) R (h .reached)))
 
 -- so a step says of the table what it says of the record
 pub step-as-run : StepAsRun
 unfolding judgeTable
-step-as-run answers n t h s =
-    ap (λ (b : Bool). cond b (judge answers (roomOf t) (messages n t) s) (refused 1)) (table-lawful answers n t h)
+step-as-run n t h c =
+    ap (λ (b : Bool). cond b (judgeCall (roomOf t) (messages n t) c) (refused 1)) (table-lawful n t h)

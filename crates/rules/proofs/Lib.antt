@@ -4,6 +4,7 @@ pub mod Arguments
 pub mod Claims
 pub mod Deeds
 pub mod Gates
+pub mod Hosted
 pub mod Laid
 pub mod LawfulReached
 pub mod Lists

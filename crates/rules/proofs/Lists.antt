@@ -3,10 +3,10 @@ use mathlib.Core.Bool.{true}
 use mathlib.Core.Path.{_≡_, refl}
 use Rattle.rules.specs.Lists.{listsRight, right, trials, written}
 use Rattle.rules.specs.Report.{reportOn}
-use Rattle.rules.specs.Run.{played}
+use Rattle.rules.specs.Run.{called, played}
 use Rattle.rules.specs.Said.{replyRows, stepRows}
 use Rattle.rules.specs.Step.{judge, judgeRow}
 
 pub lists-right : listsRight ≡ true
-unfolding listsRight right trials written stepRows replyRows reportOn played judge judgeRow
+unfolding listsRight right trials written stepRows replyRows reportOn played called judge judgeRow
 lists-right = refl

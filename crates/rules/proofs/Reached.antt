@@ -13,64 +13,68 @@ use lib.Seq.{getD-append-seam, take-append-le, take-append-seam}
 use Rattle.messages.specs.Parts.{Message}
 use Rattle.record.specs.Table.{Record}
 use Rattle.rules.specs.Reached.{Reached}
-use Rattle.rules.specs.Run.{played}
-use Rattle.rules.specs.Step.{Outcome, Step, accepted, judge, recordAfter, refused}
+use Rattle.rules.specs.Run.{Call, called, callsWith, judgeCall, played}
+use Rattle.rules.specs.Step.{Outcome, Step, accepted, recordAfter, refused}
 use Rattle.rules.specs.Theorems.{Prefixes}
 
-module _ (answers room : ℕ) where
-  -- what an accepted step keeps, a list of steps keeps
-  module _ (P : Record → Type 0) (keep : (R : Record) (s : Step) (x : Message) → P R → judge answers room R s ≡ accepted x → P (R ++ (x ∷ []))) where
-    kept-after : (R : Record) (s : Step) → P R → (o : Outcome) → judge answers room R s ≡ o → P (recordAfter R o)
-    kept-after R s p (accepted x) e = keep R s x p e
-    kept-after R s p (refused k) e = p
+module _ (room : ℕ) where
+  -- what an accepted step keeps, a list of calls keeps
+  module _ (P : Record → Type 0) (keep : (R : Record) (c : Call) (x : Message) → P R → judgeCall room R c ≡ accepted x → P (R ++ (x ∷ []))) where
+    kept-after : (R : Record) (c : Call) → P R → (o : Outcome) → judgeCall room R c ≡ o → P (recordAfter R o)
+    kept-after R c p (accepted x) e = keep R c x p e
+    kept-after R c p (refused k) e = p
 
-    kept : (ss : List Step) (R : Record) → P R → P (played answers room R ss)
-    unfolding played
+    kept : (cs : List Call) (R : Record) → P R → P (called room R cs)
+    unfolding called
     kept [] R p = p
-    kept (s ∷ ss) R p = kept ss (recordAfter R (judge answers room R s)) (kept-after R s p (judge answers room R s) refl)
+    kept (c ∷ cs) R p = kept cs (recordAfter R (judgeCall room R c)) (kept-after R c p (judgeCall room R c) refl)
 
-    pub kept-reached : (R : Record) → Reached answers room R → P [] → P R
-    kept-reached R r p = subst P (sym (r .left)) (kept (r .steps) [] p)
+    pub kept-reached : (R : Record) → Reached room R → P [] → P R
+    kept-reached R r p = subst P (sym (r .left)) (kept (r .calls) [] p)
 
   -- a list that is played in two parts
-  pub played-append : (R : Record) (ss ts : List Step) → played answers room R (ss ++ ts) ≡ played answers room (played answers room R ss) ts
-  unfolding played
-  played-append R [] ts = refl
-  played-append R (s ∷ ss) ts = played-append (recordAfter R (judge answers room R s)) ss ts
+  pub called-append : (R : Record) (cs ds : List Call) → called room R (cs ++ ds) ≡ called room (called room R cs) ds
+  unfolding called
+  called-append R [] ds = refl
+  called-append R (c ∷ cs) ds = called-append (recordAfter R (judgeCall room R c)) cs ds
 
   -- records only grow
   grown-after : (R : Record) (o : Outcome) → (rest : Record) × (recordAfter R o ≡ R ++ rest)
   grown-after R (accepted x) = (x ∷ [], refl)
   grown-after R (refused k) = ([], sym (append-nil R))
 
-  pub grown : (R : Record) (ss : List Step) → (rest : Record) × (played answers room R ss ≡ R ++ rest)
-  unfolding played
+  pub grown : (R : Record) (cs : List Call) → (rest : Record) × (called room R cs ≡ R ++ rest)
+  unfolding called
   grown R [] = ([], sym (append-nil R))
-  grown R (s ∷ ss) =
-      let here = grown-after R (judge answers room R s) in
-      let more = grown (recordAfter R (judge answers room R s)) ss in
+  grown R (c ∷ cs) =
+      let here = grown-after R (judgeCall room R c) in
+      let more = grown (recordAfter R (judgeCall room R c)) cs in
       (here .0 ++ more .0, more .1 ∙ ap (_++ more .0) (here .1) ∙ append-assoc R (here .0) (more .0))
 
-  -- how a message came into a record: added by a step to a reached record
+  -- how a message came into a record: added by a call to a reached record
   pub record Entered (earlier : Record) (x : Message) : Type 0 where
-    pub step : Step
-    pub reached : Reached answers room earlier
-    pub entered : judge answers room earlier step ≡ accepted x
+    pub call : Call
+    pub reached : Reached room earlier
+    pub entered : judgeCall room earlier call ≡ accepted x
 
   abbrev History : Record → Type 0
   History R = (i : ℕ) → i < length R → Entered (take i R) (getD R i [])
 
-  reached-more : (R : Record) (s : Step) (x : Message) → Reached answers room R → judge answers room R s ≡ accepted x
-      → Reached answers room (R ++ (x ∷ []))
-  unfolding played
-  reached-more R s x r e =
+  pub reached-none : Reached room []
+  unfolding called
+  reached-none = record { calls = []; left = refl }
+
+  -- whatever one more call leaves
+  pub reached-after : (R : Record) (c : Call) → Reached room R → Reached room (recordAfter R (judgeCall room R c))
+  unfolding called
+  reached-after R c r =
       record {
-        steps = r .steps ++ (s ∷ []);
-        left =
-            ap (recordAfter R) (sym e)
-            ∙ ap (λ (T : Record). played answers room T (s ∷ [])) (r .left)
-            ∙ sym (played-append [] (r .steps) (s ∷ []));
+        calls = r .calls ++ (c ∷ []);
+        left = ap (λ (T : Record). called room T (c ∷ [])) (r .left) ∙ sym (called-append [] (r .calls) (c ∷ []));
       }
+
+  pub reached-more : (R : Record) (c : Call) (x : Message) → Reached room R → judgeCall room R c ≡ accepted x → Reached room (R ++ (x ∷ []))
+  reached-more R c x r e = subst (λ (o : Outcome). Reached room (recordAfter R o)) e (reached-after R c r)
 
   history-more : (R : Record) (x : Message) → History R → Entered R x → History (R ++ (x ∷ []))
   history-more R x h n i l = go (ltb i (length R)) refl
@@ -84,20 +88,33 @@ module _ (answers room : ℕ) where
           subst (λ (j : ℕ). Entered (take j (R ++ (x ∷ []))) (getD (R ++ (x ∷ [])) j [])) at-end
           (subst₂ Entered (sym (take-append-seam R (x ∷ []))) (sym (getD-append-seam R x [] [])) n)
 
-  reached-none : Reached answers room []
-  unfolding played
-  reached-none = record { steps = []; left = refl }
-
-  pub history : (R : Record) → Reached answers room R → History R
-  history R r = kept-reached (λ (T : Record). Reached answers room T × History T) keep R r (reached-none, λ i h. absurd (not-suc-le-zero h)) .1
+  pub history : (R : Record) → Reached room R → History R
+  history R r = kept-reached (λ (T : Record). Reached room T × History T) keep R r (reached-none, λ i h. absurd (not-suc-le-zero h)) .1
     where
-      keep : (T : Record) (s : Step) (x : Message) → Reached answers room T × History T → judge answers room T s ≡ accepted x
-          → Reached answers room (T ++ (x ∷ [])) × History (T ++ (x ∷ []))
-      keep T s x p e = (reached-more T s x (p .0) e, history-more T x (p .1) (record { step = s; reached = p .0; entered = e }))
+      keep : (T : Record) (c : Call) (x : Message) → Reached room T × History T → judgeCall room T c ≡ accepted x
+          → Reached room (T ++ (x ∷ [])) × History (T ++ (x ∷ []))
+      keep T c x p e = (reached-more T c x (p .0) e, history-more T x (p .1) (record { call = c; reached = p .0; entered = e }))
+
+-- a list of steps that is played in two parts, all with the same account answers
+calls-append : (answers : ℕ) (ss ts : List Step) → callsWith answers (ss ++ ts) ≡ callsWith answers ss ++ callsWith answers ts
+calls-append answers [] ts = refl
+calls-append answers (s ∷ ss) ts = ap (λ (cs : List Call). record { answers = answers; step = s } ∷ cs) (calls-append answers ss ts)
+
+pub played-append : (answers room : ℕ) (R : Record) (ss ts : List Step)
+    → played answers room R (ss ++ ts) ≡ played answers room (played answers room R ss) ts
+unfolding played
+played-append answers room R ss ts =
+    ap (called room R) (calls-append answers ss ts) ∙ called-append room R (callsWith answers ss) (callsWith answers ts)
+
+-- what steps with the same account answers leave is reached
+pub reached-played : (answers room : ℕ) (ss : List Step) → Reached room (played answers room [] ss)
+unfolding played
+reached-played answers room ss = record { calls = callsWith answers ss; left = refl }
 
 -- the messages left by a shorter list are the first messages of the record of any list that continues it
 pub prefixes : Prefixes
+unfolding played
 prefixes answers room ss ts =
     let R : Record = played answers room [] ss in
-    let more = grown answers room R ts in
+    let more = grown room R (callsWith answers ts) in
     ap (take (length R)) (played-append answers room [] ss ts ∙ more .1) ∙ take-append-seam R (more .0)

@@ -1,10 +1,10 @@
 -- The theorems hold of whatever a run leaves in the table that it was lent: cut into messages, it is the record that the steps lead to.
-use mathlib.Core.Bool.{true, _&&_}
+use mathlib.Core.Bool.{false, true, true≢false}
 use mathlib.Core.List.{List, [], _∷_, _++_}
-use mathlib.Core.Path.{_≡_, _∙_, refl, sym, ap, ap₂, subst, subst₂}
-use Prim.Native.Nat.{ℕ, suc, _+_, _*_, _/_, _%_, _≤_}
+use mathlib.Core.Path.{_≡_, _∙_, refl, sym, ap, ap₂, subst}
+use Prim.Native.Nat.{ℕ, suc, _+_, _/_, _%_, _≤_}
 use borrow.Author.Tests.{eqb-true}
-use lib.Dec.{eqb, leb}
+use lib.Dec.{eqb}
 use lib.ListN.{List·getD-append, drop, getD, length, length-append, length-drop, take}
 use native.Mathlib.Omega.{arith}
 use Rattle.messages.proofs.Chain.{left-of}
@@ -12,21 +12,20 @@ use Rattle.record.proofs.Cut.{cut-append, length-cut}
 use Rattle.record.proofs.Flat.{AllLong, cut-flat, flat-length}
 use Rattle.messages.specs.Layout.{flat, messageWidth}
 use Rattle.messages.specs.Parts.{Message}
-use Rattle.record.specs.Table.{Record, cut, messages, mostRoom, roomOf, whole}
-use Rattle.rules.proofs.Gates.{Open, all-open, passes}
-use Rattle.rules.proofs.Laid.{full-length}
-use Rattle.rules.proofs.LawfulReached.{reached-room, step-as-run, table-lawful}
-use Rattle.rules.proofs.Reached.{played-append, prefixes}
+use Rattle.record.specs.Table.{Record, cut, messages, roomOf, whole}
+use Rattle.rules.proofs.Gates.{Open, all-open, either-way, passes}
+use Rattle.rules.proofs.LawfulReached.{holds-as, reached-room, step-as-run, table-lawful}
+use Rattle.rules.proofs.Reached.{called-append, prefixes, reached-played}
 use Rattle.rules.proofs.Reports.{never-22, reports}
 use Rattle.rules.proofs.Agreement.{agreement}
 use Rattle.rules.proofs.Session.{Placed, placed-new, sessions}
-use Rattle.rules.proofs.Vouched.{reached-sound}
+use Rattle.rules.proofs.Vouched.{reached-full}
 use Rattle.rules.specs.Agreed.{HouseReplyAt, Reported}
 use Rattle.rules.specs.Promised.{Kept, sessionAfter}
 use Rattle.rules.specs.Reached.{HoldsReached, Reached}
 use Rattle.rules.specs.Report.{houseReply, replyMark, report}
-use Rattle.rules.specs.Run.{Ran, over, played, run, runGates, runPlayed, runRefused, stepCount, stepWidth, stepsOf, verdicts, wholeSteps}
-use Rattle.rules.specs.Session.{R2, R3, R4, R5, R6, Setting, place5, sessionReply, sessionSteps, step1, step2, step3, step4, step5}
+use Rattle.rules.specs.Run.{Call, Ran, called, callsWith, over, played, run, runGates, runPlayed, runRefused, stepCount, stepWidth, stepsOf, verdicts, wholeSteps}
+use Rattle.rules.specs.Session.{R2, R3, R4, R5, R6, Setting, place5, sessionCalls, sessionReply, step1, step2, step3, step4, step5}
 use Rattle.rules.specs.Step.{Step, judge, numberOf, recordAfter}
 use Rattle.rules.specs.Theorems.{RunKeeps, RunPrefixes}
 
@@ -45,14 +44,14 @@ module _ (answers room : ℕ) where
 
   verdict-at : (R : Record) (ss : List Step) (s : Step) (ts : List Step)
       → getD (verdicts answers room R (ss ++ (s ∷ ts))) (length ss) 0 ≡ numberOf (judge answers room (played answers room R ss) s)
-  unfolding verdicts played
+  unfolding verdicts played called
   verdict-at R [] s ts = refl
   verdict-at R (r ∷ ss) s ts = verdict-at (recordAfter R (judge answers room R r)) ss s ts
 
 -- a session played as one list
-session-played : (c : Setting) (after5 : List Step) → played (c .answers) (c .room) (c .start) (sessionSteps c after5) ≡ R6 c after5
+session-played : (c : Setting) (after5 : List Call) → called (c .room) (c .start) (sessionCalls c after5) ≡ R6 c after5
 session-played c after5 =
-    let joined = played-append (c .answers) (c .room) in
+    let joined = called-append (c .room) in
     let l5 = step5 c ∷ after5 in
     let l4 = step4 c ∷ (c .after4 ++ l5) in
     let l3 = step3 c ∷ (c .after3 ++ l4) in
@@ -79,14 +78,14 @@ module _ (answers : ℕ) (t xs bytes : List ℕ) where
   unfolding run
   ran-done z = passes (runRefused answers t xs bytes) done (runGates answers t xs bytes) (ran-through z)
 
-  reached : Reached answers (roomOf t) R
-  reached = record { steps = stepsOf xs; left = refl }
+  reached : Reached (roomOf t) R
+  reached = reached-played answers (roomOf t) (stepsOf xs)
 
   full : AllLong messageWidth R
-  full w m = let s = reached-sound answers (roomOf t) R reached w m in full-length (s .kind) w (s .laid)
+  full = reached-full (roomOf t) R reached
 
   flat-room : length (flat R) ≤ length t
-  flat-room = omega (arith, flat-length messageWidth R full, reached-room answers (roomOf t) R reached)
+  flat-room = omega (arith, flat-length messageWidth R full, reached-room (roomOf t) R reached)
 
   pub left-is : messages (length R) (over (flat R) t) ≡ R
   left-is = cut-flat messageWidth R (drop (length (flat R)) t) full
@@ -94,12 +93,8 @@ module _ (answers : ℕ) (t xs bytes : List ℕ) where
   same-length : length (over (flat R) t) ≡ length t
   same-length = length-append (flat R) (drop (length (flat R)) t) ∙ omega (arith, flat-room, length-drop (length (flat R)) t)
 
-  holds-reached : whole t ≡ true → HoldsReached answers (length R) (over (flat R) t)
-  holds-reached e =
-      record {
-        measured = ap (λ (k : ℕ). eqb (k % messageWidth) 0 && leb k (mostRoom * messageWidth)) same-length ∙ e;
-        reached = subst₂ (Reached answers) (ap (λ (k : ℕ). k / messageWidth) (sym same-length)) (sym left-is) reached;
-      }
+  holds-reached : whole t ≡ true → HoldsReached (length R) (over (flat R) t)
+  holds-reached e = holds-as (length R) t (over (flat R) t) same-length e (subst (Reached (roomOf t)) (sym left-is) reached)
 
   done-verdict : (ss : List Step) (s : Step) (ts : List Step) → stepsOf xs ≡ ss ++ (s ∷ ts)
       → getD (done .verdictBytes) (length ss) 0 ≡ numberOf (judge answers (roomOf t) (played answers (roomOf t) [] ss) s)
@@ -110,6 +105,10 @@ module _ (answers : ℕ) (t xs bytes : List ℕ) where
       ∙ ap (λ (zs : List Step). getD (verdicts answers (roomOf t) [] zs) (length ss) 0) e
       ∙ verdict-at answers (roomOf t) [] ss s ts
 
+  as-called : {cs : List Call} → callsWith answers (stepsOf xs) ≡ cs → R ≡ called (roomOf t) [] cs
+  unfolding played
+  as-called q = ap (called (roomOf t) []) q
+
   done-kept : whole t ≡ true → Kept answers t xs done
   done-kept e =
       let h = holds-reached e in
@@ -118,33 +117,41 @@ module _ (answers : ℕ) (t xs bytes : List ℕ) where
       record {
         messages-left = left-is;
         verdict = done-verdict;
-        lawful-left = table-lawful answers n after h;
-        judged = λ s. step-as-run answers n after h s ∙ ap (λ (k : ℕ). judge answers (k / messageWidth) (messages n after) s) same-length;
-        agreed = agreement answers (roomOf after) (messages n after) (h .reached);
-        reported = reports answers n after h;
-        never-22 = never-22 answers n after h;
+        held = h;
+        lawful-left = table-lawful n after h;
+        judged = λ s. step-as-run n after h (record { answers = answers; step = s }) ∙ ap (λ (k : ℕ). judge answers (k / messageWidth) (messages n after) s) same-length;
+        agreed = agreement (roomOf after) (messages n after) (h .reached);
+        reported = reports n after h;
+        never-22 = never-22 n after h;
         sessions =
             λ l0 l1 l2 l3 l4 l5 B S b✓ s✓ q roomy.
             let c = sessionAfter answers t xs done l0 B S l1 l2 l3 l4 in
-            let all-five = sessions c (record { steps = l0; left = refl }) b✓ s✓ roomy in
+            let all-five = sessions c b✓ s✓ roomy in
             let p = place5 c in
             let left-so : messages n after ≡ R6 c l5 =
             left-is
-            ∙ ap (played answers (roomOf t) []) q
-            ∙ played-append answers (roomOf t) [] l0 (sessionSteps c l5)
+            ∙ as-called q
+            ∙ called-append (roomOf t) [] l0 (sessionCalls c l5)
             ∙ session-played c l5
             in
             let placed-so : Placed (messages n after) p (sessionReply c) =
             subst (λ (T : Record). Placed T p (sessionReply c)) (sym left-so)
-            (placed-new answers (roomOf t) (R5 c) (step5 c) (sessionReply c) l5 (all-five .replies))
+            (placed-new (roomOf t) (R5 c) (step5 c) (sessionReply c) l5 (all-five .replies))
             in
             let at-p : HouseReplyAt (messages n after) p =
             record { inside = placed-so .inside; reply = ap houseReply (placed-so .message) }
             in (
               all-five,
-              subst (λ (w : Message). Reported (replyMark w) (report n after p)) (placed-so .message) (reports answers n after h p at-p),
+              subst (λ (w : Message). Reported (replyMark w) (report n after p)) (placed-so .message) (reports n after h p at-p),
             );
       }
+
+-- a run that does not return 0 leaves the table as it was
+pub run-refused : (answers : ℕ) (t xs bytes : List ℕ) → eqb (run answers t xs bytes .number) 0 ≡ false → run answers t xs bytes .table ≡ t
+unfolding run
+run-refused answers t xs bytes =
+    either-way (runRefused answers t xs bytes) (runPlayed answers t xs bytes) (λ (r : Ran). eqb (r .number) 0 ≡ false → r .table ≡ t)
+    (λ k e. refl) (λ e. absurd (true≢false e)) (runGates answers t xs bytes)
 
 -- whatever a run leaves, when it returns 0
 pub run-keeps : RunKeeps

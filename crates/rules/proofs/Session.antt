@@ -1,4 +1,4 @@
--- Every honest session is accepted and its reply reported, with any other steps between its own, if there is room at each of the five: what a
+-- Every honest session is accepted and its reply reported, with any other calls between its own, if there is room at each of the five: what a
 -- step added keeps its place, and each of the five finds in the session's messages what it wants.
 use mathlib.Core.Bool.{true}
 use mathlib.Core.List.{List, [], _∷_, _++_, Memᴰ·cast}
@@ -27,10 +27,10 @@ use Rattle.rules.specs.Agreed.{Agreed, Reported, _∈_}
 use Rattle.rules.specs.Honest.{askClaims, asked, holds, invoiceClaims, invoiced, paid, payClaims, replied, replyClaims}
 use Rattle.rules.specs.Items.{isKind}
 use Rattle.rules.specs.Report.{earlier, itsInitiate, itsInvoice, itsPayment, itsRequest, replyMark, reportOn}
-use Rattle.rules.specs.Run.{played}
+use Rattle.rules.specs.Run.{Call, called, judgeCall}
 use Rattle.rules.specs.Session.{Completed, R2, R3, R4, R5, R6, RoomAtEach, Setting, place1, place2, place3, place4, place5, sessionMark, sessionReply, step1, step2, step3, step4, step5}
-use Rattle.rules.specs.Step.{Step, accepted, judge, newPlace, recordAfter}
-use Rattle.rules.specs.Theorems.{Sessions}
+use Rattle.rules.specs.Step.{accepted, newPlace, recordAfter}
+use Rattle.rules.specs.Theorems.{Sessions, SessionsReached}
 
 -- a message has its place in a record
 pub record Placed (R : Record) (p : Place) (x : Message) : Type 0 where
@@ -55,17 +55,17 @@ placed-end R x =
       inside = inside {l = 1} {x = length R + 1} (omega arith) (omega (arith, length-append R (x ∷ [])));
     }
 
-module _ (answers room : ℕ) where
-  placed-later : {R : Record} {p : Place} {x : Message} (ss : List Step) → Placed R p x → Placed (played answers room R ss) p x
-  placed-later {R} {p} {x} ss h =
-      let more = grown answers room R ss in
+module _ (room : ℕ) where
+  placed-later : {R : Record} {p : Place} {x : Message} (cs : List Call) → Placed R p x → Placed (called room R cs) p x
+  placed-later {R} {p} {x} cs h =
+      let more = grown room R cs in
       subst (λ (T : Record). Placed T p x) (sym (more .1)) (placed-in R (more .0) p x h)
 
-  pub placed-new : (R : Record) (s : Step) (x : Message) (ss : List Step) → judge answers room R s ≡ accepted x
-      → Placed (played answers room R (s ∷ ss)) (newPlace R) x
-  unfolding played
-  placed-new R s x ss e =
-      subst (λ (T : Record). Placed (played answers room T ss) (newPlace R) x) (sym (ap (recordAfter R) e)) (placed-later ss (placed-end R x))
+  pub placed-new : (R : Record) (c : Call) (x : Message) (cs : List Call) → judgeCall room R c ≡ accepted x
+      → Placed (called room R (c ∷ cs)) (newPlace R) x
+  unfolding called
+  placed-new R c x cs e =
+      subst (λ (T : Record). Placed (called room T cs) (newPlace R) x) (sym (ap (recordAfter R) e)) (placed-later cs (placed-end R x))
 
 module _ (c : Setting) (buyer✓ : within buyers (c .buyer .0) ≡ true) (seller✓ : within sellers (c .seller .0) ≡ true) (room : RoomAtEach c) where
   abbrev B : Buyer
@@ -77,18 +77,18 @@ module _ (c : Setting) (buyer✓ : within buyers (c .buyer .0) ≡ true) (seller
   abbrev x : Mark
   x = sessionMark c
 
-  takes : (R : Record) (s : Step) (y : Message) → Accepted (c .answers) (c .room) R s y → judge (c .answers) (c .room) R s ≡ accepted y
-  takes = accepts (c .answers) (c .room)
+  takes : (R : Record) (s : Call) (y : Message) → Accepted (s .answers) (c .room) R (s .step) y → judgeCall (c .room) R s ≡ accepted y
+  takes R s = accepts (s .answers) (c .room) R (s .step)
 
-  new : (R : Record) (s : Step) (y : Message) (ss : List Step) → judge (c .answers) (c .room) R s ≡ accepted y
-      → Placed (played (c .answers) (c .room) R (s ∷ ss)) (newPlace R) y
-  new = placed-new (c .answers) (c .room)
+  new : (R : Record) (s : Call) (y : Message) (cs : List Call) → judgeCall (c .room) R s ≡ accepted y
+      → Placed (called (c .room) R (s ∷ cs)) (newPlace R) y
+  new = placed-new (c .room)
 
-  stays : {R : Record} {p : Place} {y : Message} (ss : List Step) → Placed R p y → Placed (played (c .answers) (c .room) R ss) p y
-  stays = placed-later (c .answers) (c .room)
+  stays : {R : Record} {p : Place} {y : Message} (cs : List Call) → Placed R p y → Placed (called (c .room) R cs) p y
+  stays = placed-later (c .room)
 
   -- each step on the record that it meets, with the messages that it names
-  accepted1 : judge (c .answers) (c .room) (c .start) (step1 c) ≡ accepted (itsInitiate x)
+  accepted1 : judgeCall (c .room) (c .start) (step1 c) ≡ accepted (itsInitiate x)
   accepted1 =
       takes (c .start) (step1 c) (itsInitiate x)
       (record {
@@ -100,7 +100,7 @@ module _ (c : Setting) (buyer✓ : within buyers (c .buyer .0) ≡ true) (seller
   initiate2 : Placed (R2 c) (place1 c) (itsInitiate x)
   initiate2 = new (c .start) (step1 c) (itsInitiate x) (c .after1) accepted1
 
-  accepted2 : judge (c .answers) (c .room) (R2 c) (step2 c) ≡ accepted (itsInvoice x)
+  accepted2 : judgeCall (c .room) (R2 c) (step2 c) ≡ accepted (itsInvoice x)
   accepted2 =
       takes (R2 c) (step2 c) (itsInvoice x)
       (record {
@@ -124,7 +124,7 @@ module _ (c : Setting) (buyer✓ : within buyers (c .buyer .0) ≡ true) (seller
   invoice3 : Placed (R3 c) (place2 c) (itsInvoice x)
   invoice3 = new (R2 c) (step2 c) (itsInvoice x) (c .after2) accepted2
 
-  accepted3 : judge (c .answers) (c .room) (R3 c) (step3 c) ≡ accepted (itsPayment x)
+  accepted3 : judgeCall (c .room) (R3 c) (step3 c) ≡ accepted (itsPayment x)
   accepted3 =
       takes (R3 c) (step3 c) (itsPayment x)
       (record {
@@ -148,7 +148,7 @@ module _ (c : Setting) (buyer✓ : within buyers (c .buyer .0) ≡ true) (seller
   payment4 : Placed (R4 c) (place3 c) (itsPayment x)
   payment4 = new (R3 c) (step3 c) (itsPayment x) (c .after3) accepted3
 
-  accepted4 : judge (c .answers) (c .room) (R4 c) (step4 c) ≡ accepted (itsRequest x)
+  accepted4 : judgeCall (c .room) (R4 c) (step4 c) ≡ accepted (itsRequest x)
   accepted4 =
       takes (R4 c) (step4 c) (itsRequest x)
       (record {
@@ -170,7 +170,7 @@ module _ (c : Setting) (buyer✓ : within buyers (c .buyer .0) ≡ true) (seller
   request5 : Placed (R5 c) (place4 c) (itsRequest x)
   request5 = new (R4 c) (step4 c) (itsRequest x) (c .after4) accepted4
 
-  accepted5 : judge (c .answers) (c .room) (R5 c) (step5 c) ≡ accepted (sessionReply c)
+  accepted5 : judgeCall (c .room) (R5 c) (step5 c) ≡ accepted (sessionReply c)
   accepted5 =
       takes (R5 c) (step5 c) (sessionReply c)
       (record {
@@ -185,7 +185,7 @@ module _ (c : Setting) (buyer✓ : within buyers (c .buyer .0) ≡ true) (seller
                   ∙ claimed (replyClaims (itsRequest x)) (refl, (refl, (refl, (refl, (refl, (refl, (refl, (refl, (refl, (refl, tt))))))))));
               roomy = room .at5;
             };
-        message = ap (replied (c .answers)) (sym (request5 .message));
+        message = ap (replied (c .answers 5)) (sym (request5 .message));
       })
 
   agreed5 : Agreed x (R5 c)
@@ -201,12 +201,12 @@ module _ (c : Setting) (buyer✓ : within buyers (c .buyer .0) ≡ true) (seller
       }
 
   -- whatever is played afterwards, the reply and what is earlier than it stay
-  reply6 : (after5 : List Step) → Placed (R6 c after5) (place5 c) (sessionReply c)
+  reply6 : (after5 : List Call) → Placed (R6 c after5) (place5 c) (sessionReply c)
   reply6 after5 = new (R5 c) (step5 c) (sessionReply c) after5 accepted5
 
-  earlier5 : (after5 : List Step) → earlier (R6 c after5) (place5 c) ≡ R5 c
+  earlier5 : (after5 : List Call) → earlier (R6 c after5) (place5 c) ≡ R5 c
   earlier5 after5 =
-      let more = grown (c .answers) (c .room) (R5 c) (step5 c ∷ after5) in
+      let more = grown (c .room) (R5 c) (step5 c ∷ after5) in
       ap (λ (R : Record). earlier R (place5 c)) (more .1) ∙ take-at (R5 c) (more .0) (length (R5 c) + 1 - 1) (omega arith)
 
   pub completed : Completed c
@@ -225,6 +225,8 @@ module _ (c : Setting) (buyer✓ : within buyers (c .buyer .0) ≡ true) (seller
             (agreed-report (R5 c) x (λ n. agreed5));
       }
 
--- (it is not used that the record from which the session starts is a reached one)
 pub sessions : Sessions
-sessions c r buyer✓ seller✓ room = completed c buyer✓ seller✓ room
+sessions c buyer✓ seller✓ room = completed c buyer✓ seller✓ room
+
+pub sessions-reached : SessionsReached
+sessions-reached c reached buyer✓ seller✓ room = sessions c buyer✓ seller✓ room

@@ -7,7 +7,8 @@ use mathlib.Core.Logic.{⊎-elim}
 use mathlib.Core.Path.{_≡_, _∙_, refl, sym, ap, subst}
 use Prim.Native.Nat.{ℕ, _+_}
 use lib.ListN.{getD}
-use Rattle.messages.specs.Layout.{AuthRequest, AuthResponse, Initiate, Invoice, Kind, Payment, aPayment, anInitiate, anInvoice, body, destination, invoiceSigned, maker, paymentSigned, requestBuyerSigned, requestSigned, source}
+use Rattle.record.proofs.Flat.{AllLong}
+use Rattle.messages.specs.Layout.{AuthRequest, AuthResponse, Initiate, Invoice, Kind, Payment, aPayment, anInitiate, anInvoice, body, destination, invoiceSigned, maker, messageWidth, paymentSigned, requestBuyerSigned, requestSigned, source}
 use Rattle.messages.specs.Parts.{Message, buyerAt, hashedAt, markAt, sellerAt, slipAt, slipWidth}
 use Rattle.messages.specs.Signed.{buyerSignedAt, requestSignedAt}
 use Rattle.record.specs.Table.{Record, messageAt}
@@ -18,7 +19,7 @@ use Rattle.messages.specs.declared.signed.BuyerSigned.{BuyerSigned}
 use Rattle.messages.specs.declared.signed.RequestSigned.{RequestSigned}
 use Rattle.rules.proofs.Claims.{as-part, facts}
 use Rattle.rules.proofs.Deeds.{Taken, by-deed, item-of, named, two-named}
-use Rattle.rules.proofs.Laid.{one-kind, relaid}
+use Rattle.rules.proofs.Laid.{full-length, one-kind, relaid}
 use Rattle.rules.proofs.Reached.{kept-reached}
 use Rattle.rules.proofs.Tests.{other, picked}
 use Rattle.rules.specs.Agreed.{_∈_}
@@ -28,7 +29,8 @@ use Rattle.rules.specs.Honest.{askClaims, invoiceClaims, orderMark, payC
 use Rattle.rules.specs.Items.{buyerSignedIn, hasSlip, isKind, requestSignedIn}
 use Rattle.rules.specs.Reached.{Reached}
 use Rattle.rules.specs.Report.{itsInitiate, itsInvoice}
-use Rattle.rules.specs.Step.{Step, accepted, added, judge, theBuyer, theInitiate, theInvoice, thePayment, theSeller}
+use Rattle.rules.specs.Run.{Call, judgeCall}
+use Rattle.rules.specs.Step.{accepted, added, theBuyer, theInitiate, theInvoice, thePayment, theSeller}
 
 module _ (R : Record) where
   -- messages for a mark x that were sent, whoever made them
@@ -261,19 +263,22 @@ module _ (answers room : ℕ) (R : Record) (ks : List Argument) (xs : List ℕ) 
         record { kind = AuthRequest; laid = refl; sent = λ e. refl; vouched = (forged-buyer t, forged-seller t) }
     added-sound (forges AuthResponse) new t = record { kind = AuthResponse; laid = refl; sent = λ e. refl; vouched = tt }
 
-step-sound : (answers room : ℕ) (R : Record) (s : Step) (x : Message) → AllSound R → judge answers room R s ≡ accepted x
-    → AllSound (R ++ (x ∷ []))
-step-sound answers room R s x sound e w m =
+step-sound : (room : ℕ) (R : Record) (c : Call) (x : Message) → AllSound R → judgeCall room R c ≡ accepted x → AllSound (R ++ (x ∷ []))
+step-sound room R c x sound e w m =
     ⊎-elim (λ old. sound-grows (λ y. Memᴰ·append-left (x ∷ [])) w (sound w old))
     (λ new. subst (Sound (R ++ (x ∷ []))) (sym (List·Memᴰ·eq-of-singleton new)) new-sound) (List·Memᴰ·append-cases R m)
   where
     new-sound : Sound (R ++ (x ∷ [])) x
     new-sound =
-        by-deed answers room R s x (λ (y : Message). Sound (R ++ (y ∷ [])) y) e
+        by-deed (c .answers) room R (c .step) x (λ (y : Message). Sound (R ++ (y ∷ [])) y) e
         (λ d ks xs.
-        added-sound answers room R ks xs sound (R ++ (added R ks xs answers d ∷ []))
-        (λ y. Memᴰ·append-left (added R ks xs answers d ∷ [])) d (Memᴰ·append-right R (List·Memᴰ·head refl)))
+        added-sound (c .answers) room R ks xs sound (R ++ (added R ks xs (c .answers) d ∷ []))
+        (λ y. Memᴰ·append-left (added R ks xs (c .answers) d ∷ [])) d (Memᴰ·append-right R (List·Memᴰ·head refl)))
 
 -- every message of a reached record is sound
-pub reached-sound : (answers room : ℕ) (R : Record) → Reached answers room R → AllSound R
-reached-sound answers room R r = kept-reached answers room AllSound (step-sound answers room) R r (λ w m. absurd (List·Memᴰ·not-nil m))
+pub reached-sound : (room : ℕ) (R : Record) → Reached room R → AllSound R
+reached-sound room R r = kept-reached room AllSound (step-sound room) R r (λ w m. absurd (List·Memᴰ·not-nil m))
+
+-- so each has as many numbers as a message
+pub reached-full : (room : ℕ) (R : Record) → Reached room R → AllLong messageWidth R
+reached-full room R r w m = let s = reached-sound room R r w m in full-length (s .kind) w (s .laid)

@@ -2,7 +2,7 @@
 -- report says of it. A payment is known by its mark, and its four messages are those of the report.
 use Prim.Native.Nat.{ℕ}
 use mathlib.Core.Bool.{true}
-use mathlib.Core.List.{List·Memᴰ}
+use mathlib.Core.List.{List, List·Memᴰ, [], _∷_}
 use mathlib.Core.Logic.{_↔_}
 use mathlib.Core.Path.{_≡_}
 use lib.ListN.{length}
@@ -40,3 +40,11 @@ pub record Agreed (x : Mark) (R : Record) : Type 0 where
 pub record Reported (x : Mark) (number : ℕ) : Type 0 where
   pub agreed : (number ≡ 20) ↔ ¬ BothOutside x
   pub outsider : (number ≡ 21) ↔ BothOutside x
+
+-- a row of a house reply: place, seller and buyer of a payment, and the number that the report gives for it
+pub record RowReported (row : List ℕ) : Type 0 where
+  pub place : ℕ
+  pub payment : Mark
+  pub number : ℕ
+  pub says : row ≡ place ∷ payment .seller .0 ∷ payment .buyer .0 ∷ number ∷ []
+  pub reported : Reported payment number

@@ -3,6 +3,7 @@ pub mod Codes
 pub mod Forged
 pub mod Gates
 pub mod Honest
+pub mod Hosted
 pub mod Items
 pub mod Lists
 pub mod Promised

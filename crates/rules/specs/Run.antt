@@ -1,18 +1,34 @@
--- A run of a list of steps: from an empty record, each step judged against what the steps before it left.
+-- Steps taken one after the other, each judged against what the steps before it left: with account answers of its own, as a host takes
+-- them, or all with the same, as a run of a list does from an empty record.
 use Prim.Native.Nat.{ℕ, _*_, _/_, _%_}
 use mathlib.Core.Bool.{Bool, _&&_}
-use mathlib.Core.List.{List, [], _∷_, _++_}
+use mathlib.Core.List.{List, [], _∷_, _++_, map}
 use lib.Dec.{eqb, leb}
 use lib.ListN.{drop, length}
 use Rattle.messages.specs.Layout.{flat}
 use Rattle.record.specs.Table.{Record, cut, roomOf, whole}
 use Rattle.rules.specs.Gates.{Gate, _unless_, through}
-use Rattle.rules.specs.Step.{Step, judge, numberOf, recordAfter}
+use Rattle.rules.specs.Step.{Outcome, Step, judge, numberOf, recordAfter}
 
--- the record after a list of steps, and the number of each
+-- a step, with the account answers when it is taken
+pub record Call : Type 0 where
+  pub answers : ℕ
+  pub step : Step
+
+abbrev pub judgeCall : ℕ → Record → Call → Outcome
+judgeCall room R c = judge (c .answers) room R (c .step)
+
+-- the record after a list of calls
+unfoldable pub called : ℕ → Record → List Call → Record
+called room R [] = R
+called room R (c ∷ cs) = called room (recordAfter R (judgeCall room R c)) cs
+
+-- a list of steps, all with the same account answers: the record after it, and the number of each step
+abbrev pub callsWith : ℕ → List Step → List Call
+callsWith answers ss = map (λ s. record { answers = answers; step = s }) ss
+
 unfoldable pub played : ℕ → ℕ → Record → List Step → Record
-played answers room R [] = R
-played answers room R (s ∷ ss) = played answers room (recordAfter R (judge answers room R s)) ss
+played answers room R ss = called room R (callsWith answers ss)
 
 unfoldable pub verdicts : ℕ → ℕ → Record → List Step → List ℕ
 verdicts answers room R [] = []

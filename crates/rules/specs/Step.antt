@@ -131,10 +131,14 @@ abbrev pub placeOf : ℕ → Outcome → ℕ
 placeOf n (accepted x) = n + 1
 placeOf n (refused k) = 0
 
--- the record and the table afterwards: a message more at the end of the record, in the next place of the table; or as before
+-- the record, the count and the table afterwards: a message more at the end of the record, in the next place of the table; or as before
 abbrev pub recordAfter : Record → Outcome → Record
 recordAfter R (accepted x) = R ++ (x ∷ [])
 recordAfter R (refused k) = R
+
+abbrev pub countAfter : ℕ → Outcome → ℕ
+countAfter n (accepted x) = n + 1
+countAfter n (refused k) = n
 
 abbrev pub tableAfter : ℕ → List ℕ → Outcome → List ℕ
 tableAfter n t (accepted x) = withMessage n t x

@@ -15,7 +15,7 @@ use lib.Dec.{eqb, leb}
 use Rattle.record.specs.Table.{Record, messages, mostRoom, roomOf, whole, withMessage}
 use Rattle.rules.proofs.Accepted.{is-accepted}
 use Rattle.rules.proofs.Runs.{verdicts-length}
-use Rattle.rules.specs.Run.{over, played, stepCount, stepWidth, stepsOf, verdicts}
+use Rattle.rules.specs.Run.{called, over, played, stepCount, stepWidth, stepsOf, verdicts}
 use Rattle.rules.specs.Step.{Outcome, Step, accepted, judge, numberOf, recordAfter, refused}
 use Rattle.runs.specs.Ran.{OnePlayed, Plays}
 use Rattle.step.specs.Answer.{Answered}
@@ -135,7 +135,7 @@ module _ (answers : ℕ) (t₀ xs bytes₀ t bytes : List ℕ) (n i : ℕ) (goin
 
   pub turn : (k count : ℕ) (left : List ℕ) → length left ≡ length t
       → OnePlayed n t (judge answers (roomOf t) (messages n t) s) k count left → Going answers t₀ xs bytes₀ left (set bytes i k) count (i + 1)
-  unfolding played outcome said rest
+  unfolding played called outcome said rest
   turn k count left l w =
       let o = judge answers (roomOf t₀) (messages n t) s in
       let w′ : OnePlayed n t o k count left = subst (λ (r : ℕ). OnePlayed n t (judge answers r (messages n t) s) k count left) room-kept w in
@@ -186,7 +186,7 @@ flat-cut (suc n) t =
 -- all steps are played
 pub over-and-done : (answers : ℕ) (t₀ xs bytes₀ t bytes : List ℕ) (n i : ℕ) → Going answers t₀ xs bytes₀ t bytes n i → i ≡ stepCount xs
     → Plays answers t₀ xs bytes₀ n t bytes
-unfolding played
+unfolding played called
 over-and-done answers t₀ xs bytes₀ t bytes n i going e =
     let said = verdicts answers (roomOf t₀) [] (stepsOf xs) in
     let many : length said ≡ i = verdicts-length answers (roomOf t₀) [] (stepsOf xs) ∙ length-cut stepWidth (stepCount xs) xs ∙ sym e in

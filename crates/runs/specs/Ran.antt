@@ -2,13 +2,13 @@
 use mathlib.Core.Bool.{Bool, false, not, true}
 use mathlib.Core.List.{List, []}
 use mathlib.Core.Path.{_≡_}
-use Prim.Native.Nat.{ℕ, _+_, _≤_}
+use Prim.Native.Nat.{ℕ, _≤_}
 use lib.Dec.{eqb}
 use lib.ListN.{length}
 use Rattle.messages.specs.Layout.{flat}
 use Rattle.record.specs.Table.{mostRoom, roomOf}
 use Rattle.rules.specs.Run.{Ran as RanOf, over, played, stepsOf, verdicts}
-use Rattle.rules.specs.Step.{Outcome, accepted, numberOf, refused, tableAfter}
+use Rattle.rules.specs.Step.{Outcome, countAfter, numberOf, tableAfter}
 use Rattle.runs.specs.declared.run.Ran.{Ran}
 use Rattle.runs.specs.declared.run.Ran.the-variants.{Messages, Refused}
 
@@ -35,11 +35,7 @@ pub record Leaves (o : RanOf) (r : Ran) (table bytes : List ℕ) : Type 0 where
   -- so n fits 16 bits
   pub small : ranCount r ≤ mostRoom
 
--- of one step of it, by the step's outcome: one message more, or as many as before
-abbrev pub countAfter : ℕ → Outcome → ℕ
-countAfter n (accepted x) = n + 1
-countAfter n (refused k) = n
-
+-- of one step of it, by the step's outcome
 pub record OnePlayed (n : ℕ) (t : List ℕ) (o : Outcome) (number count : ℕ) (left : List ℕ) : Type 0 where
   pub judged : number ≡ numberOf o
   pub counted : count ≡ countAfter n o

@@ -5,19 +5,19 @@ use mathlib.Core.List.{List}
 use mathlib.Core.Path.{_≡_, _∙_, refl, sym, ap, ap₂}
 use native.Mathlib.Omega.{arith}
 use Rattle.record.specs.Table.{lawfulRecord, messages, roomOf}
-use Rattle.rules.specs.Step.{Outcome, accepted, judgeTable, numberOf, placeOf, refused}
+use Rattle.rules.specs.Step.{Outcome, accepted, judge, judgeTable, numberOf, placeOf, refused}
 use Rattle.runs.specs.Ran.{isRefused, ranCount, ranNumber}
 use Rattle.runs.specs.declared.run.Ran.{Ran}
 use Rattle.runs.specs.declared.run.Ran.the-variants.{Messages, Refused as RunRefused}
 use Rattle.rules.proofs.Accepted.{never-zero}
 use Rattle.step.proofs.Outcomes.{lawful-judged, unlawful}
-use Rattle.step.specs.Answer.{answerNumber, answerPlace}
+use Rattle.step.specs.Answer.{Answered, answerNumber, answerPlace}
 use Rattle.step.specs.declared.judge.Answer.{Answer}
 use Rattle.step.specs.declared.judge.Answer.the-variants.{Accepted, Refused}
 use Rattle.steptext.specs.Told.{textAnswers, textCount, textLine, textNumber}
 use Rattle.steptext.specs.declared.read.TextRead.{TextRead}
 use Rattle.steptext.specs.declared.read.TextRead.the-variants.{Says, TooLong, Unreadable}
-use Rattle.unique.specs.Unique.{PlayUnique, RunUnique, StepUnique, TextUnique}
+use Rattle.unique.specs.Unique.{JudgeUnique, PlayUnique, PlayedUnique, RunUnique, StepUnique, TextUnique}
 
 -- a refused step is told from an accepted one by its place
 not-both : (n : ℕ) (o : Outcome) → (o ≡ refused 0 → ⊥) → 0 ≡ numberOf o → 0 ≡ placeOf n o → ⊥
@@ -31,6 +31,12 @@ same-answer n o h (Accepted p) (Refused k) e f e′ f′ = absurd (not-both n o 
 same-answer n o h (Refused k) (Accepted p) e f e′ f′ = absurd (not-both n o h e′ f)
 same-answer n o h (Refused k) (Refused k′) e f e′ f′ = ap Refused (e ∙ sym e′)
 
+-- of any outcome that is not refused with 0
+module _ (n : ℕ) (t : List ℕ) (o : Outcome) (h : o ≡ refused 0 → ⊥) where
+  answered-same : (r r′ : Answer) (left left′ : List ℕ) → Answered n t o r left → Answered n t o r′ left′ → (r ≡ r′) × (left ≡ left′)
+  answered-same r r′ left left′ w w′ =
+      (same-answer n o h r r′ (w .number) (w .place) (w′ .number) (w′ .place), w .table ∙ sym (w′ .table))
+
 never-0 : (answers n : ℕ) (t s : List ℕ) (b : Bool) → lawfulRecord n t ≡ b → judgeTable answers n t s ≡ refused 0 → ⊥
 never-0 answers n t s true l e = never-zero answers (roomOf t) (messages n t) s (lawful-judged answers n t s l ∙ e)
 never-0 answers n t s false l e =
@@ -38,9 +44,10 @@ never-0 answers n t s false l e =
     omega arith
 
 pub step-unique : StepUnique
-step-unique answers n t s r r′ left left′ w w′ =
-    let o = judgeTable answers n t s in
-    (same-answer n o (never-0 answers n t s (lawfulRecord n t) refl) r r′ (w .number) (w .place) (w′ .number) (w′ .place), w .table ∙ sym (w′ .table))
+step-unique answers n t s = answered-same n t (judgeTable answers n t s) (never-0 answers n t s (lawfulRecord n t) refl)
+
+pub judge-unique : JudgeUnique
+judge-unique answers n t s = answered-same n t (judge answers (roomOf t) (messages n t) s) (never-zero answers (roomOf t) (messages n t) s)
 
 same-ran : (r r′ : Ran) → ranNumber r ≡ ranNumber r′ → ranCount r ≡ ranCount r′ → isRefused r ≡ isRefused r′ → r ≡ r′
 same-ran (Messages n) (Messages n′) e f g = ap Messages f
@@ -66,6 +73,10 @@ run-unique answers t xs bytes r r′ table table′ verdicts verdicts′ w w′ 
       ∙ sym (w′ .table-left),
   w .bytes-left ∙ sym (w′ .bytes-left),
 )
+
+pub played-unique : PlayedUnique
+played-unique answers t xs bytes n n′ table table′ verdicts verdicts′ w w′ =
+    (w .counted ∙ sym (w′ .counted), w .record-left ∙ sym (w′ .record-left), w .verdicts-left ∙ sym (w′ .verdicts-left))
 
 pub text-unique : TextUnique
 text-unique text t r r′ left left′ w w′ =

@@ -5,10 +5,11 @@ use mathlib.Core.List.{List}
 use mathlib.Core.Path.{_≡_}
 use lib.ListN.{length}
 use Rattle.host.specs.Entries.{Ran as RanBy, Read, Stepped}
+use Rattle.record.specs.Table.{messages, roomOf}
 use Rattle.results.specs.Shown.{Shows}
 use Rattle.rules.specs.Run.{Ran as RanOf, run}
-use Rattle.rules.specs.Step.{Outcome, Step, judgeTable}
-use Rattle.runs.specs.Ran.{Leaves as RunLeaves}
+use Rattle.rules.specs.Step.{Outcome, Step, judge, judgeTable}
+use Rattle.runs.specs.Ran.{Leaves as RunLeaves, Plays}
 use Rattle.runs.specs.declared.run.Ran.{Ran}
 use Rattle.step.specs.Answer.{Answered}
 use Rattle.step.specs.declared.judge.Answer.{Answer}
@@ -28,12 +29,25 @@ StepUnique =
     → let o = judgeTable answers n t s in
     Answered n t o r left → Answered n t o r′ left′ → (r ≡ r′) × (left ≡ left′)
 
+-- `judge_step`, which is `step` without refusal 1 (proofs/Answers)
+abbrev pub JudgeUnique : Type 0
+JudgeUnique =
+    (answers n : ℕ) (t : List ℕ) (s : Step) (r r′ : Answer) (left left′ : List ℕ)
+    → let o = judge answers (roomOf t) (messages n t) s in
+    Answered n t o r left → Answered n t o r′ left′ → (r ≡ r′) × (left ≡ left′)
+
 -- `run` (proofs/Answers)
 abbrev pub RunUnique : Type 0
 RunUnique =
     (answers : ℕ) (t xs bytes : List ℕ) (r r′ : Ran) (table table′ verdicts verdicts′ : List ℕ)
     → let o = run answers t xs bytes in
     RunLeaves o r table verdicts → RunLeaves o r′ table′ verdicts′ → (r ≡ r′) × (table ≡ table′) × (verdicts ≡ verdicts′)
+
+-- `play`, which is `run` without its refusals (proofs/Answers)
+abbrev pub PlayedUnique : Type 0
+PlayedUnique =
+    (answers : ℕ) (t xs bytes : List ℕ) (n n′ : ℕ) (table table′ verdicts verdicts′ : List ℕ) → Plays answers t xs bytes n table verdicts
+    → Plays answers t xs bytes n′ table′ verdicts′ → (n ≡ n′) × (table ≡ table′) × (verdicts ≡ verdicts′)
 
 -- `read_text` (proofs/Answers)
 abbrev pub TextUnique : Type 0

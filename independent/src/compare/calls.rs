@@ -100,7 +100,13 @@ impl Bench {
     }
 
     /// One run in both. The tables they leave stay in `engine` and `own`.
-    pub fn run(&mut self, table: &Lent<u16>, answers: u16, list: &Lent<u16>, verdicts: &Lent<u8>) {
+    pub fn run(
+        &mut self,
+        table: &Lent<u16>,
+        answers: u16,
+        list: &Lent<u16>,
+        verdicts: &Lent<u8>,
+    ) -> (u8, u16) {
         self.engine.copy_from(table);
         self.own.copy_from(table);
         let (mut engine_verdicts, mut own_verdicts) = (verdicts.clone(), verdicts.clone());
@@ -131,6 +137,7 @@ impl Bench {
             self.stop(&input, &format!("{engine:?}"), &format!("{own:?}"), &tables);
         }
         self.counts.run(list.inside(), number, own_verdicts.inside());
+        (number, n)
     }
 
     /// One report in both.

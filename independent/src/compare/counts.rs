@@ -19,6 +19,9 @@ pub struct Counts {
     accepted: [[u64; 4]; 38],
     /// By number: verdicts of runs, runs, single steps, reports, texts.
     numbers: [[u64; 5]; 23],
+    /// Reports 20 and 21 on records that runs and single steps left, the
+    /// steps with account answers of their own.
+    mixtures: [u64; 2],
     /// The kinds of text, and how many got 0, 10 and 11.
     kinds: Vec<(&'static str, [u64; 3])>,
 }
@@ -46,12 +49,20 @@ impl Counts {
             steps_read: 0,
             accepted: [[0; 4]; 38],
             numbers: [[0; 5]; 23],
+            mixtures: [0; 2],
             kinds: Vec::new(),
         }
     }
 
     pub fn number(&mut self, of: usize, number: u8) {
         self.numbers[usize::from(number)][of] += 1;
+    }
+
+    /// A report on a record that runs and single steps left.
+    pub fn mixture(&mut self, report: u8) {
+        if let Some(count) = self.mixtures.get_mut(usize::from(report).wrapping_sub(20)) {
+            *count += 1;
+        }
     }
 
     /// A step alone on a record of n messages.
@@ -111,6 +122,7 @@ impl Counts {
         self.print_kinds(&mut want);
         self.print_accepted(&mut want);
         self.print_numbers(&mut want);
+        self.print_mixtures(&mut want);
         missing
     }
 
@@ -140,6 +152,13 @@ impl Counts {
                 want(r, format!("code {code} with drawer and draw from a slip"));
             }
         }
+    }
+
+    fn print_mixtures(&self, want: &mut impl FnMut(u64, String)) {
+        let [agreed, outside] = self.mixtures;
+        println!("{agreed} reports 20 and {outside} reports 21 where runs and single steps mix");
+        want(agreed, "report 20 where runs and single steps mix".into());
+        want(outside, "report 21 where runs and single steps mix".into());
     }
 
     fn print_numbers(&self, want: &mut impl FnMut(u64, String)) {

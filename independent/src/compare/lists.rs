@@ -1,5 +1,6 @@
 //! Lists that really play: their runs, also with lengths that will not do,
-//! their steps one by one, the reports on what they left, and their texts.
+//! runs that single steps go on from, the reports on what was left, and their
+//! texts.
 
 use super::calls::Bench;
 use super::texts::try_text;
@@ -8,8 +9,9 @@ use crate::playing::List;
 use crate::writing::TOO_LONG;
 use independent::{TextRead, MAX_STEPS, MAX_TEXT, ROOM, STEP, WIDTH};
 
-/// A list on a record with room for so many messages: the run, single steps
-/// along it, the reports on what it left, and the run with bad lengths.
+/// A list on a record with room for so many messages: the run, the reports on
+/// what it left, a run of its first steps that single ones go on from, and the
+/// run with bad lengths.
 pub fn play_list(bench: &mut Bench, dice: &mut Dice, room: usize, steps: usize) {
     let list = List::new(dice, room.max(1)).fill(steps + 10, usize::MAX);
     let (answers, n) = (list.answers, if room == 0 { 0 } else { list.n });
@@ -26,7 +28,7 @@ pub fn play_list(bench: &mut Bench, dice: &mut Dice, room: usize, steps: usize) 
     bench.run(&table, answers, &lent_list, &verdicts);
 
     if dice.chance(25) {
-        step_along(bench, dice, room, answers, &numbers);
+        play_mixture(bench, dice, room, answers, &numbers);
         reports_on(bench, dice, &record[..n.min(room) * WIDTH]);
     }
     if dice.chance(10) {
@@ -45,16 +47,30 @@ fn read_list(bench: &mut Bench, dice: &mut Dice, answers: u16, numbers: &[u16], 
     try_text(bench, dice, "a list that plays", &text, Some(said));
 }
 
-/// The steps of a list one by one.
-fn step_along(bench: &mut Bench, dice: &mut Dice, room: usize, answers: u16, list: &[u16]) {
-    let steps = list.as_chunks::<STEP>().0;
-    let room = room.min(steps.len() + 1);
-    let mut table = bench.table(dice, &[], room * WIDTH);
-    let mut n = 0;
-    for &s in steps {
-        if bench.step(&table, n, answers, s).0 == 0 {
+/// A list as a host may play it: some first steps, or none, as a run, and the
+/// others one by one, half of them with account answers of their own. What is
+/// left is a reached record, so no report on it is 22.
+fn play_mixture(bench: &mut Bench, dice: &mut Dice, room: usize, answers: u16, list: &[u16]) {
+    let room = room.min(list.len() / STEP + 1);
+    let first = if dice.chance(50) { 0 } else { dice.below(list.len() / STEP + 1) };
+    let (run, alone) = list.split_at(first * STEP);
+    let table = bench.table(dice, &[], room * WIDTH);
+    let lent_list = bench.table(dice, run, run.len());
+    let verdicts = bench.verdicts(dice, first);
+    let mut n = usize::from(bench.run(&table, answers, &lent_list, &verdicts).1);
+    let mut table = bench.own.clone();
+    for &s in alone.as_chunks::<STEP>().0 {
+        let now = if dice.chance(50) { answers } else { dice.next() as u16 };
+        if bench.step(&table, n, now, s).0 == 0 {
             table.copy_from(&bench.own);
             n += 1;
+        }
+    }
+    for place in 1..=n {
+        let report = bench.report(&table, n, place);
+        bench.counts.mixture(report);
+        if report == 22 {
+            bench.both_wrong("a record of runs and single steps", &[], "no report 22");
         }
     }
 }
