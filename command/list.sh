@@ -20,17 +20,15 @@ may_read() {
 # fetch NAME TO [LIST]: copies a list, or standard input, as far as the program reads: one byte more than a text may have. The program takes
 # a failed read for the end of the text, so `head` reads, which tells the two apart; and what is put into words is then what was played.
 fetch() {
-    local said
-    if ! said=$(head -c 16385 "${@:3}" 2>&1 >"$2"); then
-        complain "$1: it could not be read: ${said##*: }"
-        return 1
-    fi
+    head -c 16385 "${@:3}" >"$2" 2>"$2.fault" && return
+    complain "$1: it could not be read: $(sed 's/.*: //' "$2.fault")"
+    return 1
 }
 
 # fetch_standard_input: before any list is played, as those who play have no standard input of their own
 fetch_standard_input() {
     [ ! -t 0 ] || complain "step text from the terminal; end it with Ctrl-D"
-    fetch "standard input" "$room/stdin" 2>"$room/stdin.fault" || return 0
+    fetch "standard input" "$room/stdin" 2>"$room/stdin.words" || return 0
     # a pipe is not read to its end, so that one without an end does no harm
     [ ! -f /dev/stdin ] || wc -c </dev/stdin >"$room/stdin.size"
 }
@@ -39,8 +37,8 @@ fetch_standard_input() {
 text_of() {
     if [ "$1" != - ]; then
         may_read "$1" && fetch "$1" "$2" -- "$1"
-    elif [ -s "$room/stdin.fault" ]; then
-        cat "$room/stdin.fault" >&2
+    elif [ -s "$room/stdin.words" ]; then
+        cat "$room/stdin.words" >&2
         return 1
     else
         cat "$room/stdin" >"$2"
@@ -60,14 +58,15 @@ explain() {
     complain "$name${words:-: refused with $3, at line $4}"
 }
 
-# count_replies RESULTS: sets `count`, how many replies were reported as each number. They stand behind the steps.
+# count_replies RESULTS: sets `count`, how many replies were reported as each number. They stand behind the steps; the steps are cut off by
+# their length, as `${1#*..}` takes a time that grows with the square of it.
 count_replies() {
-    local report
+    local report steps=${1%%$'\nR\t'*}
     count=([20]=0 [21]=0 [22]=0)
-    [[ $1 == *$'\nR\t'* ]] || return 0
-    while IFS=$'\t' read -r _ _ _ report; do
+    [ ${#steps} -lt ${#1} ] || return 0
+    while IFS=$'\t' read -r _ _ _ _ report; do
         count[report]=$((count[report] + 1))
-    done <<<"${1#*$'\nR\t'}"
+    done <<<"${1:${#steps}+1}"
 }
 
 # run TEXT: sets `results` to what the program prints
@@ -83,13 +82,14 @@ run() {
 # play I TEXT: plays list I. Its text goes to the file TEXT, its results to $room/I.out, and words to standard error. Prints how it ended:
 # `played` with the replies that were reported as 20, 21 and 22, or `refused`, `unread` or `failed`.
 play() {
-    local list=${lists[$1]} results count
+    local list=${lists[$1]} results count refusal
     if ! text_of "$list" "$2"; then
         echo unread
     elif ! run "$2" || ! printf '%s' "${results:+$results$'\n'}" >"$room/$1.out"; then
         echo failed
-    elif [[ $results =~ ^E$'\t'([0-9]+)$'\t'([0-9]+)$ ]]; then
-        explain "$list" "$2" "${BASH_REMATCH[1]}" "${BASH_REMATCH[2]}"
+    elif [[ $results == E$'\t'* ]]; then
+        IFS=$'\t' read -r -a refusal <<<"$results"
+        explain "$list" "$2" "${refusal[1]}" "${refusal[2]}"
         echo refused
     else
         count_replies "$results"

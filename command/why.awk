@@ -93,7 +93,7 @@ function wide(character, zero) {
 # what makes any line unreadable, line 1 as well as a step
 function any_line(    at) {
     if ((at = place_of(0)))
-        return "a zero byte, at byte " at " of the line; this is a binary file, and no step text"
+        return "a zero byte, at byte " at " of the line, as binary files have; step text has none"
     if (byte[first] == 35 || byte[first] == 47 && byte[first + 1] == 47 && first < last)
         return "a comment; step text has none"
     if (first > last)
@@ -103,7 +103,7 @@ function any_line(    at) {
     if (place_of(13) && line == 1 && !ended)
         return "carriage returns in place of line feeds; save it with Unix line ends"
     if ((at = place_of(32)))
-        return "a space, at byte " at " of the line; between two numbers stands one tab, and nothing else"
+        return "a space, at byte " at " of the line; numbers are parted by single tabs"
 }
 
 # the first place of a byte in the line, from 1, or 0
@@ -161,7 +161,7 @@ function tabs(at) {
         return "a tab at the start of the line"
     if (at > last)
         return "a tab at the end of the line"
-    return "two tabs in a row, at byte " (at - first) " of the line; between two numbers stands one"
+    return "two tabs in a row, at byte " (at - first) " of the line; numbers are parted by single tabs"
 }
 
 # a number of so many digits: 1 to 5, no needless leading 0, at most 65,535
