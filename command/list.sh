@@ -21,7 +21,7 @@ may_read() {
 # a failed read for the end of the text, so `head` reads, which tells the two apart; and what is put into words is then what was played.
 fetch() {
     head -c 16385 "${@:3}" >"$2" 2>"$2.fault" && return
-    complain "$1: it could not be read: $(sed 's/.*: //' "$2.fault")"
+    complain "$1: it could not be read: $(sed -n '1s/.*: //p' "$2.fault")"
     return 1
 }
 

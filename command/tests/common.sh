@@ -1,6 +1,7 @@
 # shellcheck shell=bash
 # What the tests of ./bench share: a folder of their own, and a count of what was tried and what differs. Sourced.
 set -u
+# shellcheck disable=SC2034
 root=$(cd "$(dirname "$(readlink -f "$0")")/../.." && pwd) || exit 2
 room=$(mktemp -d) || exit 2
 trap 'rm -rf "$room"' EXIT

@@ -1,6 +1,7 @@
 #!/usr/bin/env bash
 # refused.sh: refused texts on ./bench. What is printed and what is said beside it were written by hand, from 01 and from what stands in each
 # text. Its last line is `refused.sh: N tried, M differences`.
+# shellcheck source-path=SCRIPTDIR source=common.sh
 . "$(dirname "$0")/common.sh"
 
 # refused NAME ROWS WORDS FORMAT: a text, in the shell's way of writing, that prints these rows; the words go behind the text's name
@@ -104,6 +105,7 @@ refused_file "a needless 0 before 1,024 steps are over" "E 10 3" ", line 3: the 
 
 # from standard input, which has no name; the length is known of a file, and not of a pipe
 from_file() { "$root/bench" <x.txt; }
+# shellcheck disable=SC2002
 from_pipe() { cat x.txt | "$root/bench" -; }
 outcome "standard input" 1 "E 10 3" "bench: standard input, line 3: the number 02 has a needless leading 0" from_pipe
 head -c 16385 /dev/zero | tr '\0' 1 >x.txt
