@@ -37,25 +37,36 @@ rewrites() {
     [ -t 2 ] && [ "${TERM:-dumb}" != dumb ]
 }
 
-# progress TOTAL: reads what rt prints, and says of each crate when it is proved. On a terminal that is one line, and its time goes on.
+# tell WORDS...: how far the build is; where `rewrite` is set, in place of what was told before
+tell() {
+    if [ -n "$rewrite" ]; then
+        printf '\r\033[Kbench: %s' "$*" >&2
+    else
+        complain "$*"
+    fi
+}
+
+# progress TOTAL: reads what rt prints, and tells of each crate when it is proved; on a terminal the time goes on between two of them. A line
+# that has come in part when a second is over is kept until the rest is there.
 progress() {
-    local total=$1 done=0 now="starting" rewrite='' part='' line status
+    local total=$1 done=0 now=starting rewrite='' part='' line status
     ! rewrites || rewrite=yes
     while true; do
         status=0
         IFS= read -r ${rewrite:+-t 1} line || status=$?
         part+=$line
-        if [ "$status" -eq 0 ]; then
+        if [ "$status" -gt 128 ]; then
+            tell "$done of $total: $now, $SECONDS s so far"
+        elif [ "$status" -gt 0 ]; then
+            break
+        else
             if [[ $part =~ ^rt:\ ([^ ]+)\ proved\ \((unchanged)? ]]; then
                 done=$((done + 1))
                 now="${BASH_REMATCH[1]} ${BASH_REMATCH[2]:-proved}"
-                [ -n "$rewrite" ] || complain "$done of $total: $now, $SECONDS s so far"
+                tell "$done of $total: $now, $SECONDS s so far"
             fi
             part=''
-        elif [ "$status" -le 128 ]; then
-            break
         fi
-        [ -z "$rewrite" ] || printf '\r\033[Kbench: %s of %s: %s, %s s so far' "$done" "$total" "$now" "$SECONDS" >&2
     done
     [ -z "$rewrite" ] || echo >&2
 }

@@ -40,7 +40,10 @@ exec 9<>"$room/never"
 set -m
 ./bench <"$room/never" 2>/dev/null &
 set +m
-until [ -n "$(ls "$TMPDIR")" ]; do sleep 0.05; done
+for _ in {1..100}; do
+    [ -z "$(ls "$TMPDIR")" ] || break
+    sleep 0.05
+done
 sleep 0.2
 kill -INT -- -$!
 status=0
