@@ -64,7 +64,7 @@ refused "two lists in one" "E 10 3" ", line 3: a second line that begins with A;
 
 refused "a comment" "E 10 1" ", line 1: a comment; step text has none" '# an honest session\nA\t8\n'
 refused "a comment with slashes" "E 10 2" ", line 2: a comment; step text has none" 'A\t8\n// an honest session\n1\t3\t2\n'
-refused "one slash is no comment" "E 10 2" ", line 2: the character /, at byte 1 of the line, where only digits and tabs stand" 'A\t8\n/\n'
+refused "one slash is no comment" "E 10 2" ", line 2: the character /, at byte 1 of the line, where only digits and tabs stand" 'A\t8\n/1\t3\n'
 refused "line 1 empty" "E 10 1" ", line 1: an empty line" '\nA\t8\n'
 refused "an empty line" "E 10 3" ", line 3: an empty line" 'A\t8\n1\t3\t2\n\n2\t2\t1\n'
 refused "an empty line at the end" "E 10 3" ", line 3: an empty line" 'A\t8\n1\t3\t2\n\n'
