@@ -14,7 +14,10 @@ echo "rt: low proved (unchanged since it was last proved)"
 echo "fn middle::first: proved"
 echo "rt: middle proved (7 s)"
 [ ! -e fails ] || { echo "rt: bench NOT PROVED (exit 1, 3 s)"; echo "rt: FAILED: bench"; exit 1; }
-echo "rt: bench proved (11 s)"
+# a line that comes in two parts, more than a second apart
+printf 'rt: ben'
+[ ! -e slow ] || sleep 1.2
+echo "ch proved (11 s)"
 echo "rt: bench ran as nobody, and wrote what its file 'stdout' has (0 s)"
 echo "rt: ok, 3 crates proved"
 mkdir -p target/bin
@@ -63,6 +66,7 @@ on_terminal() {
     echo "$(wc -l <"$room/shown") lines"
     tr '\r' '\n' <"$room/shown" | grep -v -e ': starting' -e '^$' | uniq
 }
+touch slow
 if command -v script >/dev/null; then
     tried=$((tried + 1))
     again=$'\033[K'
