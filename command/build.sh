@@ -83,7 +83,8 @@ build() {
     complain "building the program, which proves it: $total crates, usually 2 to 5 minutes from nothing; the log is target/bench.log"
     mkdir -p "$root/target"
     SECONDS=0
-    (cd "$root" && rt check bench) 2>&1 | tee "$log" | progress "$total"
+    # standard input may be a list, which is for the program
+    (cd "$root" && rt check bench) 2>&1 </dev/null | tee "$log" | progress "$total"
     if [ "${PIPESTATUS[0]}" -ne 0 ]; then
         complain "the program could not be built; target/bench.log ends with"
         tail -n 5 "$log" >&2

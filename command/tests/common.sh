@@ -8,6 +8,8 @@ trap 'rm -rf "$room"' EXIT
 # the folders that ./bench makes for itself go here, so that one left behind is seen
 export TMPDIR=$room/between
 mkdir "$TMPDIR"
+# the system's own words, as `Is a directory`, in the language of the tests
+export LC_ALL=C
 tried=0
 differences=0
 

@@ -67,7 +67,7 @@ on_terminal() {
     tr '\r' '\n' <"$room/shown" | grep -v -e ': starting' -e '^$' | uniq
 }
 touch slow
-if command -v script >/dev/null; then
+if script -qec true /dev/null </dev/null >/dev/null 2>&1; then
     tried=$((tried + 1))
     again=$'\033[K'
     [ "$(on_terminal)" = "3 lines
@@ -77,6 +77,6 @@ ${again}bench: 2 of 3: middle proved, T s so far
 ${again}bench: 3 of 3: bench proved, T s so far
 bench: the program is built, T s" ] || differs "on a terminal: $(cat -v "$room/shown")"
 else
-    echo "there is no \`script\`, so a terminal was not tried"
+    echo "\`script\` gives no terminal here, so none was tried"
 fi
 finish
