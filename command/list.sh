@@ -72,7 +72,8 @@ count_replies() {
 # run TEXT: sets `results` to what the program prints
 run() {
     local status=0
-    results=$("$program" <"$1" 2>"$1.fault") || status=$?
+    # exec, as without it the shell starts a process more
+    results=$(exec "$program" <"$1" 2>"$1.fault") || status=$?
     [ "$status" -ne 0 ] || return 0
     complain "the program failed with status $status: $(tail -n 1 "$1.fault")"
     [ "$(uname -m)" = x86_64 ] || complain "the program is for x86-64, and this machine is $(uname -m)"

@@ -66,6 +66,15 @@ status=0
 [ "$(grep -v 'for x86-64' "$room/err")" = "bench: the program failed with status 7: out of luck" ] ||
     differs "a program that fails: it said $(cat "$room/err")"
 
+# a worker that is ended from without, by the program of the copy
+# shellcheck disable=SC2016
+printf '#!/bin/sh\nkill -KILL $PPID\n' >"$room/copy/target/bin/bench"
+tried=$((tried + 1))
+status=0
+"$room/copy/bench" lists/p1.txt lists/p2.txt >"$room/out" 2>"$room/err" || status=$?
+[ "$status" -eq 3 ] || differs "a worker that is ended: status $status"
+grep -q '^bench: lists/p1.txt: it was not played to its end$' "$room/err" || differs "a worker that is ended: it said $(cat "$room/err")"
+
 # sh hands over to bash, or says that there is none
 outcome "sh bench" 0 "$p1" "" sh bench lists/p1.txt
 mkdir "$room/empty"
