@@ -1,4 +1,4 @@
-/* The bench's entries for hosts in C. Link target/staticlib/libhost.a (`rt staticlib host`).
+/* The bench's entries for hosts in C and C++. Link target/staticlib/libhost.a (`rt staticlib host`).
  *
  * A record is a table of 16-bit numbers, 48 to a message, room for at most 512 messages; n of them are there. A table is lent as a
  * pointer and its length in numbers; the pointer may be NULL where that length is 0. No table may overlap another one of the same
@@ -15,6 +15,19 @@
 
 #include <stddef.h>
 #include <stdint.h>
+
+/* Lengths are in numbers, as the entries take them; that of a text is in bytes. */
+#define KP_MESSAGE_LEN 48       /* a message */
+#define KP_MESSAGES_MAX 512     /* the most messages that a record has room for */
+#define KP_RECORD_LEN_MAX 24576 /* a record with that room */
+#define KP_STEP_LEN 7           /* a step: its code and six arguments */
+#define KP_STEPS_MAX 1024       /* the most steps of a list */
+#define KP_STEPS_LEN_MAX 7168   /* a list of so many, and the least table that kp_read takes */
+#define KP_TEXT_LEN_MAX 16384   /* the most bytes of a text */
+
+#ifdef __cplusplus
+extern "C" {
+#endif
 
 /* One step against a record of n messages. Bit b of answers is set when account b is good. The step is a code and six arguments, unused
  * ones 0. Accepted (0), the message stands in the next place of the record, which is returned in *place; refused (1 to 7), *place is 0.
@@ -38,5 +51,9 @@ uint8_t kp_report(const uint16_t *record, size_t record_len, size_t n, size_t pl
  * 1,024 steps. answers, count and line must not be NULL. */
 uint8_t kp_read(const uint8_t *text, size_t text_len, uint16_t *steps, size_t steps_len, uint16_t *answers, uint16_t *count,
                 uint16_t *line);
+
+#ifdef __cplusplus
+}
+#endif
 
 #endif
