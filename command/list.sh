@@ -1,6 +1,6 @@
 # shellcheck shell=bash
 # shellcheck disable=SC2154 # what ../bench sets
-# One list: its text is fetched, played on the program, and a refusal put into words. Sourced by ../bench, which sets root, program, room and
+# One list: its text is fetched, played on the program, and a refusal put into words. Sourced by ../bench, which sets root, program, runner, room and
 # lists, and has `complain`.
 
 # may_read LIST: whether there is a file to play
@@ -73,10 +73,9 @@ count_replies() {
 run() {
     local status=0
     # exec, as without it the shell starts a process more
-    results=$(exec "$program" <"$1" 2>"$1.fault") || status=$?
+    results=$(exec "${runner[@]}" "$program" <"$1" 2>"$1.fault") || status=$?
     [ "$status" -ne 0 ] || return 0
     complain "the program failed with status $status: $(tail -n 1 "$1.fault")"
-    [ "$(uname -m)" = x86_64 ] || complain "the program is for x86-64, and this machine is $(uname -m)"
     return 1
 }
 

@@ -1,8 +1,14 @@
-/* The bench's entries for hosts in C and C++. Link target/staticlib/libhost.a (`rt staticlib host`).
+/* The bench's entries for hosts in C and C++. Link target/libhost.a, which host/library.sh builds.
  *
  * A record is a table of 16-bit numbers, 48 to a message, room for at most 512 messages; n of them are there. A table is lent as a
  * pointer and its length in numbers; the pointer may be NULL where that length is 0. No table may overlap another one of the same
  * call. Nothing is kept after a call returns. Every input gets an answer, and a refused call leaves every lent table as it was.
+ *
+ * Begin with n = 0, and after each kp_step or kp_run that returns 0 let n be the place or the n that it gave. Then the record holds a reached
+ * record: what steps from an empty record lead to. This is so in whatever order the two are called, whatever account answers go with
+ * each call, and wherever the messages are copied in between. Of such a record it is proved that kp_report never returns 22: a house reply
+ * has the four messages of its payment earlier in the record, unless buyer and seller are both the outsider. And from it every honest
+ * session of five steps is accepted, other steps between or not, if there is room at each.
  *
  * Numbers returned: 0 accepted; 1 the record is not lawful (its length, its count or a message); 2 no such code; 3 a party or response
  * code out of range, or an unused argument not 0; 4 no such place; 5 a message named holds no such item or has the wrong kind; 6 an

@@ -8,6 +8,9 @@ if [ $# -lt 2 ] || [ ! -x "$1" ] || [ ! -x "$2" ]; then
     exit 2
 fi
 program=$(readlink -f "$1")
+# shellcheck source-path=SCRIPTDIR source=../command/machine.sh
+. "$(dirname "$0")/../command/machine.sh"
+runner_for "$program" || exit 2
 independent=$(readlink -f "$2")
 generator=$(dirname "$independent")/lists
 seed=${3:-1}
@@ -27,7 +30,7 @@ differs() {
 # compare NAME FILE: both programs print the same for the text
 compare() {
     texts=$((texts + 1))
-    "$program" <"$2" >"$room/printed" || differs "$1: the program failed"
+    "${runner[@]}" "$program" <"$2" >"$room/printed" || differs "$1: the program failed"
     "$independent" <"$2" >"$room/other" || differs "$1: the independent program failed"
     cmp -s "$room/printed" "$room/other" || differs "$1: from the independent program"
 }

@@ -9,6 +9,9 @@ fi
 generator=$(readlink -f "$1")
 # shellcheck source-path=SCRIPTDIR source=common.sh
 . "$(dirname "$0")/common.sh"
+# shellcheck source-path=SCRIPTDIR source=../machine.sh
+. "$root/command/machine.sh"
+runner_for "$root/target/bin/bench" || exit 2
 "$generator" 11 100 "$room/lists" 80 >/dev/null || differs "the generator of lists failed"
 cd "$room/lists" || exit 2
 lists=(*)
@@ -19,7 +22,7 @@ wanted() {
     local list gap=''
     for list in "${lists[@]}"; do
         printf "$gap==> %s <==\n" "$list"
-        "$root/target/bin/bench" <"$list"
+        "${runner[@]}" "$root/target/bin/bench" <"$list"
         gap='\n'
     done
 }
