@@ -157,7 +157,8 @@ pub fn may_reply(request: &[u16]) -> bool
     if !mark_is(request, REQUEST_SLIP + 1, mark) {
         return false;
     }
-    if !same_mark(mark, rebuilt_mark(seller, slip)) {
+    let rebuilt = rebuilt_mark(seller, slip);
+    if !same_mark(mark, rebuilt) {
         return false;
     }
     if !is_signed_by_seller(request, REQUEST_SIGNED, seller, mark) {

@@ -84,24 +84,19 @@ pub extern "C" fn kp_read(
 ) -> u8
     ensures { λ r. ⌜ Read (now (steps .entry)) (readText (length (now (steps .entry))) (now (text .entry))) r (now (answers .exit)) (now (count .exit)) (now (line .exit)) (now (steps .exit)) ⌝ }
 {
+    *answers = 0;
+    *count = 0;
+    *line = 0;
     match read_text(text, steps) {
         TextRead::Says(said, n) => {
             *answers = said;
             *count = n as u16;
-            *line = 0;
             0
         }
         TextRead::Unreadable(at) => {
-            *answers = 0;
-            *count = 0;
             *line = at as u16;
             10
         }
-        TextRead::TooLong => {
-            *answers = 0;
-            *count = 0;
-            *line = 0;
-            11
-        }
+        TextRead::TooLong => 11,
     }
 }

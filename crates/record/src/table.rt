@@ -49,7 +49,8 @@ pub fn is_lawful_record(t: &[u16], n: usize) -> bool
     if !is_whole(t) {
         return false;
     }
-    if room(t) < n {
+    let places = room(t);
+    if places < n {
         return false;
     }
     let mut least = [0u16; POSITIONS];
@@ -63,12 +64,12 @@ fn are_lawful(least: &[u16], most: &[u16], t: &[u16], n: usize) -> bool
     requires { ⌜ (now least ≡ leastNumbers) × (now most ≡ mostNumbers) × (n * messageWidth ≤ length (now t)) ⌝ }
     ensures { λ r. ⌜ r ≡ all lawful (messages n (now (t .entry))) ⌝ }
 {
-    let mut i = 0;
-    while i < n {
-        if !is_lawful_by(least, most, message(t, Place(i + 1))) {
+    let mut p = 0;
+    while p < n {
+        if !is_lawful_by(least, most, message(t, Place(p + 1))) {
             return false;
         }
-        i += 1;
+        p += 1;
     }
     true
 }

@@ -1,6 +1,8 @@
--- P1 to P10 come out as document 01 says, by computation over the definitions.
+-- P1 to P10 come out as document 01 says, by computation over the definitions. This stands behind the session, so that a rule under which
+-- nothing is accepted is refused there first.
 use mathlib.Core.Bool.{true}
 use mathlib.Core.Path.{_≡_, refl}
+use Rattle.rules.proofs.Session.{sessions}
 use Rattle.rules.specs.Lists.{listsRight, right, trials, written}
 use Rattle.rules.specs.Report.{reportOn}
 use Rattle.rules.specs.Run.{called, played}

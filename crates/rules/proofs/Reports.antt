@@ -43,11 +43,11 @@ agreed-test x R a =
     (both (member-stands (itsInvoice x) R (a .invoice))
     (both (member-stands (itsPayment x) R (a .payment)) (both (member-stands (itsRequest x) R (a .request)) refl))))
 
-outside-test : (x : Mark) → BothOutside x → outside x ≡ true
-outside-test x b = both (eq-eqb (x .buyer .0) 0 (b .0)) (eq-eqb (x .seller .0) 0 (b .1))
-
 both-outside : (x : Mark) → outside x ≡ true → BothOutside x
 both-outside x e = (eqb-true (x .buyer .0) 0 (left-of _ _ e), eqb-true (x .seller .0) 0 (right-of (eqb (x .buyer .0) 0) _ e))
+
+outside-test : (x : Mark) → BothOutside x → outside x ≡ true
+outside-test x b = both (eq-eqb (x .buyer .0) 0 (b .0)) (eq-eqb (x .seller .0) 0 (b .1))
 
 pub agreed-report : (R : Record) (x : Mark) → (¬ BothOutside x → Agreed x R) → Reported x (reportOn R x)
 unfolding reportOn

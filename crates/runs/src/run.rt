@@ -72,17 +72,23 @@ pub fn play(t: &mut [u16], answers: u16, steps: &[u16], verdicts: &mut [u8]) -> 
     n
 }
 
+// All tests are made before any is answered.
 pub fn run(t: &mut [u16], answers: u16, steps: &[u16], verdicts: &mut [u8]) -> Ran
     ensures { λ r. ⌜ Leaves (runOf answers (now (t .entry)) (now (steps .entry)) (now (verdicts .entry))) r (now (t .exit)) (now (verdicts .exit)) ⌝ }
 {
-    if !is_whole(t) {
+    let broken = !is_whole(t);
+    let uneven = !are_whole_steps(steps);
+    let count = steps.len() / STEP_WIDTH;
+    let short = verdicts.len() < count;
+    if broken {
         return Ran::Refused(1);
     }
-    if !are_whole_steps(steps) {
+    if uneven {
         return Ran::Refused(8);
     }
-    if verdicts.len() < steps.len() / STEP_WIDTH {
+    if short {
         return Ran::Refused(9);
     }
-    Ran::Messages(play(t, answers, steps, verdicts))
+    let n = play(t, answers, steps, verdicts);
+    Ran::Messages(n)
 }

@@ -1,9 +1,13 @@
 -- `honest::allowed::may_reply` meets its promise.
 use borrow.Author.Needs.{needs}
-use mathlib.Core.Path.{_∙_, refl, sym}
+use mathlib.Core.Path.{_∙_, _≡_, refl, sym}
+use Prim.Native.Nat.{_+_}
 use native.Mathlib.Omega.{arith}
 use Rattle.honest.proofs.Parted.{reply-parts}
 use Rattle.messages.proofs.Chain.{failed, held, skip, stop}
+use Rattle.messages.specs.Layout.{requestSigned}
+use Rattle.messages.specs.Parts.{markWidth, sameMark}
+use Rattle.rules.specs.Honest.{holds, slipIs}
 use Rattle.honest.proofs.allowed.may_reply.Statement.{statement}
 use Rattle.honest.proofs.allowed.may_reply.Tie as tie
 
@@ -32,8 +36,9 @@ returns-3 c =
     let the-if1 = c .before .before .before .before .before .before .before .before .if1 in
     let the-is-for-house = c .before .before .before .before .before .before .before .before .before .is-for-house in
     let the-args = c .before .before .before .before .before .before .before .before .before .before .before .args in
+    let told : c .before .same-mark .result ≡ sameMark (the-mark-at .result) (the-rebuilt-mark .result) = c .before .same-mark .ensures in
     skip (held (the-is-for-house .ensures) (the-if1 .left))
-    (skip (held (the-mark-is .ensures) (the-if2 .left)) (stop _ (failed (c .before .same-mark .ensures) (c .if3 .taken))))
+    (skip (held (the-mark-is .ensures) (the-if2 .left)) (stop _ (failed told (c .if3 .taken))))
     ∙ sym (reply-parts (the-args .request .now) (the-mark-at .ensures) (the-slip-at .ensures) (the-rebuilt-mark .ensures) refl)
 
 returns-4 : tie.Need-returns-4
@@ -67,10 +72,12 @@ returns-5 c =
     let the-if1 = c .before .before .before .before .before .before .before .before .before .before .before .before .if1 in
     let the-is-for-house = c .before .before .before .before .before .before .before .before .before .before .before .before .before .is-for-house in
     let the-args = c .before .before .before .before .before .before .before .before .before .before .before .before .before .before .before .args in
+    let told : c .before .slip-is .result ≡ holds (slipIs (the-args .request .now) (requestSigned + 1 + markWidth) (the-slip-at .result)) =
+    c .before .slip-is .ensures in
     skip (held (the-is-for-house .ensures) (the-if1 .left))
     (skip (held (the-mark-is .ensures) (the-if2 .left))
     (skip (held (the-same-mark .ensures) (the-if3 .left))
-    (skip (held (the-is-signed-by-seller .ensures) (the-if4 .left)) (stop _ (failed (c .before .slip-is .ensures) (c .if5 .taken))))))
+    (skip (held (the-is-signed-by-seller .ensures) (the-if4 .left)) (stop _ (failed told (c .if5 .taken))))))
     ∙ sym (reply-parts (the-args .request .now) (the-mark-at .ensures) (the-slip-at .ensures) (the-rebuilt-mark .ensures) refl)
 
 is-signed-by-buyer-requires : tie.Need-is-signed-by-buyer-requires

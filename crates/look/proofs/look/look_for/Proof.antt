@@ -2,15 +2,18 @@
 use Prim.Native.Nat.{_-_, _≤_, min, ℕ}
 use borrow.Author.Needs.{needs}
 use lib.ListN.{drop}
-use mathlib.Core.Bool.{false≢true}
+use lib.Dec.{ltb}
+use mathlib.Core.Bool.{cond, false≢true}
+use mathlib.Core.List.{[], _∷_, _++_}
 use mathlib.Core.Path.{_∙_, _≡_, ap, refl, sym}
 use native.Mathlib.Omega.{arith}
 use Rattle.messages.proofs.Chain.{goes-on, leaves}
 use Rattle.messages.specs.Tests.{all}
 use Rattle.record.proofs.Cut.{test-next, test-over}
-use Rattle.record.specs.Table.{messages}
+use Rattle.record.specs.Table.{Record, messages}
 use Rattle.look.proofs.Standing.{next-counted, none-seen}
 use Rattle.look.specs.Looked.{passed, seenOf}
+use Rattle.look.specs.declared.look.Seen.{Seen}
 use Rattle.look.proofs.look.look_for.Statement.{statement}
 use Rattle.look.proofs.look.look_for.Tie as tie
 
@@ -56,15 +59,17 @@ loop-again c =
     let the-message = c .before .before .before .before .before .message in
     let the-loop-test = c .before .before .before .before .before .before .loop-test in
     let the-loop = c .before .before .before .before .before .before .before .loop in
-    let the-args = c .before .before .before .before .before .before .before .before .before .before .before .before .before .before .before .before .before .before .args in (
+    let the-args = c .before .before .before .before .before .before .before .before .before .before .before .before .before .before .before .before .before .before .args in
+    let R = messages (min (the-loop .i) (the-args .earlier)) (the-args .t .now) in
+    let seen : Record → Seen = seenOf (the-args .initiate .now) (the-args .invoice .now) (the-args .payment .now) (the-args .request .now) in
+    let told : c .noted .result ≡ seen (cond (ltb (the-loop .i) (the-args .earlier)) (R ++ (_ ∷ [])) R) =
+    c .noted .ensures R (the-loop .inv .2) in (
       omega arith,
       goes-on (the-passes .result) _
           (test-next (passed (the-args .trusted)) (the-args .n) (the-args .t .now) (the-loop .i) _ (the-loop-test .taken)
           (the-message .ensures .0) (the-passes .ensures)) (c .before .if1 .left)
           ∙ the-loop .inv .1,
-      c .noted .ensures (messages (min (the-loop .i) (the-args .earlier)) (the-args .t .now)) (the-loop .inv .2)
-          ∙ ap (seenOf (the-args .initiate .now) (the-args .invoice .now) (the-args .payment .now) (the-args .request .now))
-          (next-counted (the-args .t .now) (the-loop .i) (the-args .earlier) (the-message .ensures .0)),
+      told ∙ ap seen (next-counted (the-args .t .now) (the-loop .i) (the-args .earlier) (the-message .ensures .0)),
     )
 
 returns-2 : tie.Need-returns-2 Inv-loop μ-loop

@@ -1,4 +1,4 @@
--- `runs::run::play` meets its promise.
+-- `runs::run::play` meets its promise. What was found on the way is looked for by its name, and not by its distance.
 use Prim.Native.Nat.{_*_, _-_}
 use borrow.Author.Needs.{needs}
 use mathlib.Core.Path.{_∙_, sym}
@@ -17,39 +17,37 @@ abbrev μ-loop : tie.MeasureT-loop
 
 loop-holds : tie.Need-loop-holds Inv-loop μ-loop
 loop-holds c =
-    let the-args = c .before .before .before .before .args in
-    begin (the-args .answers) (the-args .t .now) (the-args .steps .now) (the-args .verdicts .now)
-
-play-one-requires : tie.Need-play-one-requires Inv-loop μ-loop
-play-one-requires c κs =
-    let the-loop = c .before .before .before .before .loop in
-    let the-all-rows = c .before .before .before .before .before .all-rows in
-    let the-args = c .before .before .before .before .before .before .before .before .before .args in
-    let the-pre = c .before .before .before .before .before .before .before .before .before .pre in (
-      whole-kept (the-args .t .now) (the-loop .t) (the-loop .inv .long) (the-pre .0),
-      omega (arith, the-loop .inv .room, the-loop .inv .long),
-      the-all-rows .ensures,
-      part (the-loop .i * stepWidth) stepWidth (the-args .steps .now) (omega arith) .1,
-    )
+    let start : tie.Start Inv-loop μ-loop = search in
+    begin (start .args .answers) (start .args .t .now) (start .args .steps .now) (start .args .verdicts .now)
 
 loop-again : tie.Need-loop-again Inv-loop μ-loop
 loop-again c =
-    let the-play-one = c .before .before .play-one in
-    let the-loop-test = c .before .before .before .before .before .before .loop-test in
-    let the-loop = c .before .before .before .before .before .before .before .loop in
-    let the-args = c .before .before .before .before .before .before .before .before .before .before .before .before .args in
-    let the-pre = c .before .before .before .before .before .before .before .before .before .before .before .before .pre in
-    turn (the-args .answers) (the-args .t .now) (the-args .steps .now) (the-args .verdicts .now) (the-loop .t) (the-loop .verdicts)
-    (the-loop .n) (the-loop .i) (the-loop .inv) (the-loop-test .taken) (the-pre .1) _
-    (part (the-loop .i * stepWidth) stepWidth (the-args .steps .now) (omega arith) .0
-    ∙ sym (step-at (the-args .steps .now) (the-loop .i) (the-loop-test .taken)))
-    (the-play-one .result .number) (the-play-one .result .n) (the-play-one .last .0) (the-play-one .kept .0) (the-play-one .ensures)
+    let start : tie.Start Inv-loop μ-loop = search in
+    let at : tie.At-loop Inv-loop μ-loop = search in
+    let more : tie.In-loop Inv-loop μ-loop = search in
+    turn (start .args .answers) (start .args .t .now) (start .args .steps .now) (start .args .verdicts .now) (at .loop .t)
+    (at .loop .verdicts) (at .loop .n) (at .loop .i) (at .loop .inv) (more .loop-test .taken) (start .pre .1) _
+    (part (at .loop .i * stepWidth) stepWidth (start .args .steps .now) (omega arith) .0
+    ∙ sym (step-at (start .args .steps .now) (at .loop .i) (more .loop-test .taken)))
+    _ _ _ (search) (search)
 
 returns : tie.Need-returns Inv-loop μ-loop
 returns c =
-    let the-args = c .before .before .before .before .before .before .args in
-    over-and-done (the-args .answers) (the-args .t .now) (the-args .steps .now) (the-args .verdicts .now) (c .before .loop .t)
-    (c .before .loop .verdicts) (c .before .loop .n) (c .before .loop .i) (c .before .loop .inv) (omega (arith, c .before .loop .inv .upto))
+    let start : tie.Start Inv-loop μ-loop = search in
+    let at : tie.At-loop Inv-loop μ-loop = search in
+    over-and-done (start .args .answers) (start .args .t .now) (start .args .steps .now) (start .args .verdicts .now) (at .loop .t)
+    (at .loop .verdicts) (at .loop .n) (at .loop .i) (at .loop .inv) (omega (arith, at .loop .inv .upto))
+
+play-one-requires : tie.Need-play-one-requires Inv-loop μ-loop
+play-one-requires c κs =
+    let start : tie.Start Inv-loop μ-loop = search in
+    let rows : tie.After-all-rows Inv-loop μ-loop = search in
+    let at : tie.At-loop Inv-loop μ-loop = search in (
+      whole-kept (start .args .t .now) (at .loop .t) (at .loop .inv .long) (start .pre .0),
+      omega (arith, at .loop .inv .room, at .loop .inv .long),
+      rows .all-rows .ensures,
+      part (at .loop .i * stepWidth) stepWidth (start .args .steps .now) (omega arith) .1,
+    )
 
 pub play-spec : {M : Type 1} → statement M
 play-spec =

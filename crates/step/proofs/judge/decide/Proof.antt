@@ -1,4 +1,4 @@
--- `step::judge::decide` meets its promise.
+-- `step::judge::decide` meets its promise. Where a return stands is looked for by its name, and not by its distance.
 use borrow.Author.Needs.{needs}
 use borrow.Author.Tests.{le-ltb, leb-false, leb-true, lt-ltb}
 use native.Mathlib.Omega.{arith}
@@ -15,12 +15,13 @@ is-allowed-requires c κs = for-table (without-row (c .before .before .before .b
 
 returns : tie.Need-returns
 returns c =
-    let the-is-allowed = c .before .before .before .is-allowed in
-    let the-args = c .before .before .before .before .before .before .before .before .args in
-    let the-pre = c .before .before .before .before .before .before .before .before .pre in
+    let here : tie.Then1 = search in
+    let the-is-allowed = here .before .before .before .is-allowed in
+    let the-args = here .before .before .before .before .before .before .before .before .args in
+    let the-pre = here .before .before .before .before .before .before .before .before .pre in
     let told = the-is-allowed .ensures (the-args .n) (without-row (the-pre .1)) in
     refuses (the-args .n) (the-args .t .now)
-    (not-allowed (the-args .answers) (the-args .n) (the-args .t .now) (the-args .s .now) (failed told (c .if1 .taken)))
+    (not-allowed (the-args .answers) (the-args .n) (the-args .t .now) (the-args .s .now) (failed told (here .if1 .taken)))
 
 returns-2 : tie.Need-returns-2
 returns-2 c =
@@ -34,6 +35,22 @@ returns-2 c =
     refuses (the-args .n) (the-args .t .now)
     (full (the-args .answers) (the-args .n) (the-args .t .now) (the-args .s .now) (held told (c .before .if1 .left)) none)
 
+returns-3 : tie.Need-returns-3
+returns-3 c =
+    let here : tie.After-added = search in
+    let the-if2 = here .before .before .if2 in
+    let the-if1 = here .before .before .before .if1 in
+    let the-room = here .before .before .before .before .room in
+    let the-is-allowed = here .before .before .before .before .before .before .is-allowed in
+    let the-args = here .before .before .before .before .before .before .before .before .before .before .before .args in
+    let the-pre = here .before .before .before .before .before .before .before .before .before .before .before .pre in
+    let told = the-is-allowed .ensures (the-args .n) (without-row (the-pre .1)) in
+    let more = leb-false (the-room .result) (the-args .n) (the-if2 .left) in
+    let some = lt-ltb (the-args .n) (roomOf (the-args .t .now)) (omega (arith, more, the-room .ensures)) in
+    accepts (the-args .n) (the-args .t .now) (here .added .result)
+    (taken (the-args .answers) (the-args .n) (the-args .t .now) (the-args .s .now) (held told (the-if1 .left)) some (here .added .ensures))
+    (search) (under-most (the-args .n) (the-args .t .now) (the-pre .0) (omega (arith, more, the-room .ensures)))
+
 added-requires : tie.Need-added-requires
 added-requires c κs =
     let the-args = c .before .before .before .before .before .before .before .before .before .before .args in
@@ -46,23 +63,6 @@ write-requires c κs =
     let the-room = c .before .before .before .before .before .before .room in
     let the-args = c .before .before .before .before .before .before .before .before .before .before .before .before .before .args in
     (omega (arith, leb-false (the-room .result) (the-args .n) (the-if2 .left), the-room .ensures), search needs)
-
-returns-3 : tie.Need-returns-3
-returns-3 c =
-    let the-write = c .before .before .write in
-    let the-added = c .before .before .before .before .before .added in
-    let the-if2 = c .before .before .before .before .before .before .before .if2 in
-    let the-if1 = c .before .before .before .before .before .before .before .before .if1 in
-    let the-room = c .before .before .before .before .before .before .before .before .before .room in
-    let the-is-allowed = c .before .before .before .before .before .before .before .before .before .before .before .is-allowed in
-    let the-args = c .before .before .before .before .before .before .before .before .before .before .before .before .before .before .before .before .args in
-    let the-pre = c .before .before .before .before .before .before .before .before .before .before .before .before .before .before .before .before .pre in
-    let told = the-is-allowed .ensures (the-args .n) (without-row (the-pre .1)) in
-    let more = leb-false (the-room .result) (the-args .n) (the-if2 .left) in
-    let some = lt-ltb (the-args .n) (roomOf (the-args .t .now)) (omega (arith, more, the-room .ensures)) in
-    accepts (the-args .n) (the-args .t .now) (the-added .result)
-    (taken (the-args .answers) (the-args .n) (the-args .t .now) (the-args .s .now) (held told (the-if1 .left)) some (the-added .ensures))
-    (the-write .ensures) (under-most (the-args .n) (the-args .t .now) (the-pre .0) (omega (arith, more, the-room .ensures)))
 
 pub decide-spec : {M : Type 1} → statement M
 decide-spec =

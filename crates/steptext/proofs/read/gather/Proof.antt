@@ -1,4 +1,4 @@
--- `steptext::read::gather` meets its promise.
+-- `steptext::read::gather` meets its promise. Where the first return stands is looked for by its name, and not by its distance.
 use Prim.Native.Nat.{_*_, _+_, _-_, _≤_}
 use borrow.Author.Needs.{needs}
 use borrow.Author.Tests.{not-false}
@@ -24,31 +24,16 @@ loop-holds c =
     let the-pre = c .before .before .pre in
     begin (the-args .text .now) (the-args .from) (the-args .answers) (the-args .t .now) (the-pre .0)
 
-add-t12 : tie.Need-add-t12 Inv-loop μ-loop
-add-t12 c =
-    let the-loop = c .before .before .before .before .before .loop in
-    omega (arith, the-loop .inv .few)
-
-same-length : tie.Need-same-length Inv-loop μ-loop
-same-length c =
-    let the-loop = c .before .before .before .before .before .loop in
-    the-loop .inv .long
-
 returns : tie.Need-returns Inv-loop μ-loop
 returns c =
-    let the-step-said = c .before .before .step-said in
-    let the-next-line = c .before .before .before .next-line in
-    let the-loop-test = c .before .before .before .before .loop-test in
-    let the-loop = c .before .before .before .before .before .loop in
-    let the-args = c .before .before .before .before .before .before .before .before .args in
+    let here : tie.After-step-said Inv-loop μ-loop = search in
+    let the-next-line = here .before .next-line in
+    let the-loop-test = here .before .before .loop-test in
+    let the-loop = here .before .before .before .loop in
+    let the-args = here .before .before .before .before .before .before .args in
     refused-line (the-args .text .now) (the-args .from) (the-args .answers) (the-args .t .now) (the-loop .t) (the-loop .at)
     (the-loop .count) (the-loop .inv) (the-loop-test .taken) _ (the-next-line .ensures)
-    (failed (readable-is _ _ (the-step-said .ensures)) (c .if1 .taken))
-
-same-length-2 : tie.Need-same-length-2 Inv-loop μ-loop
-same-length-2 c =
-    let the-loop = c .before .before .before .before .before .before .loop in
-    the-loop .inv .long
+    (failed (readable-is _ _ (here .step-said .ensures)) (c .if1 .taken))
 
 returns-2 : tie.Need-returns-2 Inv-loop μ-loop
 returns-2 c =
@@ -60,6 +45,44 @@ returns-2 c =
     refused-text (the-args .text .now) (the-args .from) (the-args .answers) (the-args .t .now) (the-loop .t) (the-loop .at)
     (the-loop .count) (the-loop .inv) (the-loop-test .taken) _ (the-next-line .ensures)
     (held (readable-is _ _ (the-step-said .ensures)) (c .before .if1 .left)) (c .if2 .taken)
+
+loop-again : tie.Need-loop-again Inv-loop μ-loop
+loop-again c =
+    let the-copy-into = c .before .before .copy-into in
+    let the-if2 = c .before .before .before .before .before .before .if2 in
+    let the-if1 = c .before .before .before .before .before .before .before .if1 in
+    let the-step-said = c .before .before .before .before .before .before .before .before .before .step-said in
+    let the-next-line = c .before .before .before .before .before .before .before .before .before .before .next-line in
+    let the-loop-test = c .before .before .before .before .before .before .before .before .before .before .before .loop-test in
+    let the-loop = c .before .before .before .before .before .before .before .before .before .before .before .before .loop in
+    let the-args = c .before .before .before .before .before .before .before .before .before .before .before .before .before .before .before .args in
+    let the-pre = c .before .before .before .before .before .before .before .before .before .before .before .before .before .before .before .pre in
+    let numbered = numbers-are _ _ (the-step-said .ensures) (not-false _ (the-if1 .left)) in
+    turn (the-args .text .now) (the-args .from) (the-args .answers) (the-args .t .now) (the-loop .t) (the-loop .at) (the-loop .count)
+    (the-loop .inv) (the-loop-test .taken) (the-next-line .result .now) (the-next-line .ensures)
+    (held (readable-is _ _ (the-step-said .ensures)) (the-if1 .left)) (the-if2 .left) (the-pre .1) (the-copy-into .last .0)
+    (the-copy-into .ensures ∙ ap (withNumbers (the-loop .count * stepWidth) (the-loop .t)) numbered) (the-copy-into .kept .0)
+
+returns-3 : tie.Need-returns-3 Inv-loop μ-loop
+returns-3 c =
+    let the-args = c .before .before .before .before .args in
+    over-and-done (the-args .text .now) (the-args .from) (the-args .answers) (the-args .t .now) (c .before .loop .t) (c .before .loop .at)
+    (c .before .loop .count) (c .before .loop .inv) (c .loop-test .left)
+
+add-t12 : tie.Need-add-t12 Inv-loop μ-loop
+add-t12 c =
+    let the-loop = c .before .before .before .before .before .loop in
+    omega (arith, the-loop .inv .few)
+
+same-length : tie.Need-same-length Inv-loop μ-loop
+same-length c =
+    let the-loop = c .before .before .before .before .before .loop in
+    the-loop .inv .long
+
+same-length-2 : tie.Need-same-length-2 Inv-loop μ-loop
+same-length-2 c =
+    let the-loop = c .before .before .before .before .before .before .loop in
+    the-loop .inv .long
 
 mul-copy-into : tie.Need-mul-copy-into Inv-loop μ-loop
 mul-copy-into c =
@@ -97,31 +120,8 @@ loop-less c =
     let the-loop-test = c .before .before .before .before .before .before .before .before .before .before .before .loop-test in
     omega (arith, ahead _ _ _ (the-loop-test .taken) (the-next-line .ensures))
 
-loop-again : tie.Need-loop-again Inv-loop μ-loop
-loop-again c =
-    let the-copy-into = c .before .before .copy-into in
-    let the-if2 = c .before .before .before .before .before .before .if2 in
-    let the-if1 = c .before .before .before .before .before .before .before .if1 in
-    let the-step-said = c .before .before .before .before .before .before .before .before .before .step-said in
-    let the-next-line = c .before .before .before .before .before .before .before .before .before .before .next-line in
-    let the-loop-test = c .before .before .before .before .before .before .before .before .before .before .before .loop-test in
-    let the-loop = c .before .before .before .before .before .before .before .before .before .before .before .before .loop in
-    let the-args = c .before .before .before .before .before .before .before .before .before .before .before .before .before .before .before .args in
-    let the-pre = c .before .before .before .before .before .before .before .before .before .before .before .before .before .before .before .pre in
-    let numbered = numbers-are _ _ (the-step-said .ensures) (not-false _ (the-if1 .left)) in
-    turn (the-args .text .now) (the-args .from) (the-args .answers) (the-args .t .now) (the-loop .t) (the-loop .at) (the-loop .count)
-    (the-loop .inv) (the-loop-test .taken) (the-next-line .result .now) (the-next-line .ensures)
-    (held (readable-is _ _ (the-step-said .ensures)) (the-if1 .left)) (the-if2 .left) (the-pre .1) (the-copy-into .last .0)
-    (the-copy-into .ensures ∙ ap (withNumbers (the-loop .count * stepWidth) (the-loop .t)) numbered) (the-copy-into .kept .0)
-
 same-length-3 : tie.Need-same-length-3 Inv-loop μ-loop
 same-length-3 c = c .before .loop .inv .long
-
-returns-3 : tie.Need-returns-3 Inv-loop μ-loop
-returns-3 c =
-    let the-args = c .before .before .before .before .args in
-    over-and-done (the-args .text .now) (the-args .from) (the-args .answers) (the-args .t .now) (c .before .loop .t) (c .before .loop .at)
-    (c .before .loop .count) (c .before .loop .inv) (c .loop-test .left)
 
 pub gather-spec : {M : Type 1} → statement M
 gather-spec =
