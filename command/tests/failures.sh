@@ -42,11 +42,11 @@ exec 9<>"$room/never"
 set -m
 ./bench <"$room/never" 2>/dev/null &
 set +m
-for _ in {1..100}; do
+for _ in {1..400}; do
     [ -z "$(ls "$TMPDIR")" ] || break
     sleep 0.05
 done
-sleep 0.5
+sleep 1
 kill -INT -- -$!
 status=0
 wait $! || status=$?
