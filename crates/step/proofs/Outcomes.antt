@@ -27,12 +27,6 @@ pub refuses : (n : ℕ) (t : List ℕ) {o : Outcome} {k : ℕ} → o ≡ refused
 refuses n t {o} {k} e =
     subst (λ (x : Outcome). Answered n t x (Refused k) t) (sym e) (record { number = refl; place = refl; table = refl; small = zero-le })
 
-pub accepts : (n : ℕ) (t : List ℕ) {o : Outcome} (m : Message) {left : List ℕ} → o ≡ accepted m → left ≡ withMessage n t m → n < mostRoom
-    → Answered n t o (Accepted (record { 0 = n + 1 })) left
-accepts n t m {left} e p h =
-    subst (λ (x : Outcome). Answered n t x (Accepted (record { 0 = n + 1 })) left) (sym e)
-    (record { number = refl; place = refl; table = p; small = omega arith })
-
 -- three gates: a number is given by the first that is shut, and 9 only where all stand open
 shut : (a b c : Bool) (o : Outcome) → (three a b c ≡ 9 → ⊥)
     → cond a (cond b (cond c o (refused 5)) (refused 4)) (refused 3) ≡ refused (three a b c)
