@@ -2,14 +2,14 @@
 use mathlib.Core.Bool.{Bool, true, false, cond}
 use mathlib.Core.List.{List}
 use mathlib.Core.Path.{_≡_, _∙_, refl, sym, ap, subst}
-use Prim.Native.Nat.{ℕ, _+_, _*_, _≤_, _<_, zero-le}
+use Prim.Native.Nat.{ℕ, _*_, _≤_, zero-le}
 use native.Mathlib.Omega.{arith}
 use lib.Dec.{ltb}
 use lib.ListN.{length}
 use Rattle.record.proofs.Cut.{length-cut}
 use Rattle.messages.specs.Layout.{messageWidth}
 use Rattle.messages.specs.Parts.{Message}
-use Rattle.record.specs.Table.{lawfulRecord, messages, mostRoom, roomOf, withMessage}
+use Rattle.record.specs.Table.{lawfulRecord, messages, roomOf}
 use Rattle.rules.specs.Codes.{known, rowOf}
 use Rattle.rules.specs.Items.{eachArgument, holding, inRange, placed}
 use Rattle.rules.specs.Step.{Outcome, accepted, argumentsOf, codeOf, judge, judgeRow, judgeTable, refused}
@@ -20,18 +20,12 @@ use Rattle.step.specs.Decided.{decided}
 use Rattle.deeds.specs.Coded.{addedIn, allowedIn}
 use Rattle.faults.specs.Faults.{faults}
 use Rattle.arguments.specs.Ready.{Known, Ready}
-use Rattle.step.specs.declared.judge.Answer.the-variants.{Accepted, Refused}
+use Rattle.step.specs.declared.judge.Answer.the-variants.{Refused}
 
 -- the answer by the outcome
 pub refuses : (n : ℕ) (t : List ℕ) {o : Outcome} {k : ℕ} → o ≡ refused k → Answered n t o (Refused k) t
 refuses n t {o} {k} e =
     subst (λ (x : Outcome). Answered n t x (Refused k) t) (sym e) (record { number = refl; place = refl; table = refl; small = zero-le })
-
-pub accepts : (n : ℕ) (t : List ℕ) {o : Outcome} (m : Message) {left : List ℕ} → o ≡ accepted m → left ≡ withMessage n t m → n < mostRoom
-    → Answered n t o (Accepted (record { 0 = n + 1 })) left
-accepts n t m {left} e p h =
-    subst (λ (x : Outcome). Answered n t x (Accepted (record { 0 = n + 1 })) left) (sym e)
-    (record { number = refl; place = refl; table = p; small = omega arith })
 
 -- three gates: a number is given by the first that is shut, and 9 only where all stand open
 shut : (a b c : Bool) (o : Outcome) → (three a b c ≡ 9 → ⊥)

@@ -21,7 +21,7 @@ start x l = omega arith
 
 abbrev Inv-loop : tie.InvT-loop
 Inv-loop t n row s first₀ i₀ first i =
-    (i ≤ 6) × (3 ≤ first) × (first ≤ 9)
+    (i ≤ 6) × (4 ≤ first) × (first ≤ 9)
     × (min first (faults n (messages n t) (drop i (rowOf (codeOf s) .takes)) (drop i (argumentsOf s)))
     ≡ faults n (messages n t) (rowOf (codeOf s) .takes) (argumentsOf s))
 
@@ -48,7 +48,7 @@ returns c =
     let the-args = c .before .before .before .before .before .before .before .before .before .args in
     no {b = c .before .all-unused .result} (the-loop .first) (not-true (c .before .all-unused .result) (c .if2 .taken)) refl
     ∙ ended (the-args .n) (messages (the-args .n) (the-args .t .now)) (the-pre .1) (the-loop .i) (the-loop .first)
-    (c .before .all-unused .result) (the-loop-test .taken) (the-if1 .taken) (c .before .all-unused .ensures) (the-loop .inv .1)
+    (c .before .all-unused .result) (the-loop-test .taken) (the-if1 .taken) (c .before .all-unused .ensures) (omega (arith, the-loop .inv .1))
     (the-loop .inv .2) (the-loop .inv .3)
 
 returns-2 : tie.Need-returns-2 Inv-loop μ-loop
@@ -60,7 +60,7 @@ returns-2 c =
     let the-args = c .before .before .before .before .before .before .before .before .before .args in
     yes {b = c .before .all-unused .result} 3 (not-false (c .before .all-unused .result) (c .if2 .left)) refl
     ∙ ended (the-args .n) (messages (the-args .n) (the-args .t .now)) (the-pre .1) (the-loop .i) (the-loop .first)
-    (c .before .all-unused .result) (the-loop-test .taken) (the-if1 .taken) (c .before .all-unused .ensures) (the-loop .inv .1)
+    (c .before .all-unused .result) (the-loop-test .taken) (the-if1 .taken) (c .before .all-unused .ensures) (omega (arith, the-loop .inv .1))
     (the-loop .inv .2) (the-loop .inv .3)
 
 returns-3 : tie.Need-returns-3 Inv-loop μ-loop
@@ -72,7 +72,7 @@ returns-3 c =
     three-found (the-args .n) (messages (the-args .n) (the-args .t .now)) (the-pre .1) (the-loop .i) (c .before .fault .result)
     (the-loop .first) (the-loop-test .taken)
     (c .before .fault .ensures (getD (rowOf (codeOf (the-args .s .now)) .takes) (the-loop .i) Argument.unused)
-    (sym (letter-at (the-pre .1) (the-loop .i) (the-loop-test .taken)))) (the-loop .inv .3) (c .if3 .taken) (the-loop .inv .1)
+    (sym (letter-at (the-pre .1) (the-loop .i) (the-loop-test .taken)))) (the-loop .inv .3) (c .if3 .taken) (omega (arith, the-loop .inv .1))
 
 loop-again : tie.Need-loop-again Inv-loop μ-loop
 loop-again c =
@@ -86,9 +86,10 @@ loop-again c =
     let least : 3 ≤ the-fault .result = subst (λ (x : ℕ). 3 ≤ x) (sym told)
     (fault-least (the-args .n) (messages (the-args .n) (the-args .t .now))
     (getD (rowOf (codeOf (the-args .s .now)) .takes) (the-loop .i) Argument.unused) (getD (the-args .s .now) (the-loop .i + 1) 0)) in
-    let e : c .if4 .first ≡ min (the-loop .first) (the-fault .result) = ⊎-elim (λ w. omega arith) (λ w. omega arith) (c .if4 .came) in (
+    let e : c .if4 .first ≡ min (the-loop .first) (the-fault .result) =
+    let low = the-loop .inv .1 in ⊎-elim (λ w. omega arith) (λ w. omega arith) (c .if4 .came) in (
       omega arith,
-      omega (arith, e, least, the-loop .inv .1),
+      omega (arith, e, least, c .before .if3 .left, the-loop .inv .1),
       omega (arith, e, the-loop .inv .2),
       turn (the-args .n)
           (messages (the-args .n) (the-args .t .now)) (the-pre .1) (the-loop .i) (the-fault .result) (the-loop .first) (c .if4 .first)

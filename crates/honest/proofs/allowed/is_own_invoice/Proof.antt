@@ -1,13 +1,18 @@
 -- `honest::allowed::is_own_invoice` meets its promise.
 use borrow.Author.Needs.{needs}
-use mathlib.Core.Path.{refl}
+use lib.ListN.{getD}
+use mathlib.Core.Path.{_≡_, refl}
 use Rattle.honest.proofs.Holds.{differs, is}
 use Rattle.messages.proofs.Chain.{last, skip, stop}
+use Rattle.messages.specs.Layout.{maker}
 use Rattle.honest.proofs.allowed.is_own_invoice.Statement.{statement}
 use Rattle.honest.proofs.allowed.is_own_invoice.Tie as tie
 
 returns : tie.Need-returns
-returns c = stop _ (differs (c .if1 .taken))
+returns c =
+    let here : tie.Start = search in
+    let not-made : getD (here .args .invoice .now) maker 0 ≡ here .args .seller .0 → ⊥ = c .if1 .taken in
+    stop _ (differs not-made)
 
 returns-2 : tie.Need-returns-2
 returns-2 c =

@@ -62,7 +62,7 @@ loop-again c =
     let the-args = c .before .before .before .before .before .before .before .before .before .before .before .before .before .before .before .before .before .before .args in
     let R = messages (min (the-loop .i) (the-args .earlier)) (the-args .t .now) in
     let seen : Record → Seen = seenOf (the-args .initiate .now) (the-args .invoice .now) (the-args .payment .now) (the-args .request .now) in
-    let told : c .noted .result ≡ seen (cond (ltb (the-loop .i) (the-args .earlier)) (R ++ (_ ∷ [])) R) =
+    let told : c .noted .result ≡ seen (cond (ltb (the-loop .i) (the-args .earlier)) (R ++ (the-message .result .now ∷ [])) R) =
     c .noted .ensures R (the-loop .inv .2) in (
       omega arith,
       goes-on (the-passes .result) _

@@ -1,12 +1,14 @@
 -- `step::judge::decide` meets its promise. Where a return stands is looked for by its name, and not by its distance.
 use borrow.Author.Needs.{needs}
 use borrow.Author.Tests.{le-ltb, leb-false, leb-true, lt-ltb}
+use mathlib.Core.Path.{_∙_, ap, sym}
 use native.Mathlib.Omega.{arith}
 use Rattle.messages.proofs.Chain.{failed, held}
 use Rattle.arguments.proofs.Places.{for-table, without-row}
 use Rattle.record.proofs.Whole.{most, under-most}
-use Rattle.record.specs.Table.{roomOf}
-use Rattle.step.proofs.Outcomes.{accepts, full, not-allowed, refuses, taken}
+use Rattle.record.specs.Table.{roomOf, withMessage}
+use Rattle.rules.specs.Step.{numberOf, placeOf, tableAfter}
+use Rattle.step.proofs.Outcomes.{full, not-allowed, refuses, taken}
 use Rattle.step.proofs.judge.decide.Statement.{statement}
 use Rattle.step.proofs.judge.decide.Tie as tie
 
@@ -44,12 +46,18 @@ returns-3 c =
     let the-is-allowed = here .before .before .before .before .before .before .is-allowed in
     let the-args = here .before .before .before .before .before .before .before .before .before .before .before .args in
     let the-pre = here .before .before .before .before .before .before .before .before .before .before .before .pre in
-    let told = the-is-allowed .ensures (the-args .n) (without-row (the-pre .1)) in
+    let allowed = the-is-allowed .ensures (the-args .n) (without-row (the-pre .1)) in
     let more = leb-false (the-room .result) (the-args .n) (the-if2 .left) in
     let some = lt-ltb (the-args .n) (roomOf (the-args .t .now)) (omega (arith, more, the-room .ensures)) in
-    accepts (the-args .n) (the-args .t .now) (here .added .result)
-    (taken (the-args .answers) (the-args .n) (the-args .t .now) (the-args .s .now) (held told (the-if1 .left)) some (here .added .ensures))
-    (search) (under-most (the-args .n) (the-args .t .now) (the-pre .0) (omega (arith, more, the-room .ensures)))
+    let came = taken (the-args .answers) (the-args .n) (the-args .t .now) (the-args .s .now) (held allowed (the-if1 .left)) some
+    (here .added .ensures) in
+    record {
+      number = sym (ap numberOf came);
+      place = sym (ap (placeOf (the-args .n)) came);
+      table = _∙_ {b = withMessage (the-args .n) (the-args .t .now) (here .added .result)} (search)
+          (sym (ap (tableAfter (the-args .n) (the-args .t .now)) came));
+      small = omega (arith, under-most (the-args .n) (the-args .t .now) (the-pre .0) (omega (arith, more, the-room .ensures)));
+    }
 
 added-requires : tie.Need-added-requires
 added-requires c κs =
