@@ -1,5 +1,6 @@
 // The header from C++: every entry is called, every constant is held to the library, which takes what it allows and refuses one more, and each
-// message of a session is held to the positions of document 01. Its last line is `N differences`; any one makes the status 1.
+// message of a session is held to the positions of document 01. A second session goes on from a run, with other account answers. Its last line
+// is `N differences`; any one makes the status 1.
 #include "kp_bench.h"
 
 #include <cstdio>
@@ -89,20 +90,43 @@ static void positions(const std::vector<uint16_t> &record)
     message(record, 5, {5, 1, 1, 2, /**/ 1, /**/ 1, 1, /**/ 2, 3, 3, 1, 3});
 }
 
-// the honest session of P1, step by step, and the report on its reply
+// an honest session of buyer 3 and seller 2 after n messages, step by step; returns how many there are then
+static uint16_t session(std::vector<uint16_t> &record, uint16_t n, uint16_t answers)
+{
+    const unsigned steps[][4] = {{1, 3, 2, 0}, {2, 2, n + 1u, 0}, {3, 3, n + 1u, n + 2u}, {4, 2, n + 2u, n + 3u}, {5, n + 4u, 0, 0}};
+    for (const auto &s : steps) {
+        uint16_t place = 0;
+        same("a step", kp_step(record.data(), record.size(), n, answers, s[0], s[1], s[2], s[3], 0, 0, 0, &place), 0);
+        same("its place", place, n + 1u);
+        n = place;
+    }
+    return n;
+}
+
+// the session of P1, and the report on its reply
 static void step_and_report()
 {
-    static const uint16_t session[][4] = {{1, 3, 2, 0}, {2, 2, 1, 0}, {3, 3, 1, 2}, {4, 2, 2, 3}, {5, 4, 0, 0}};
     std::vector<uint16_t> record(KP_RECORD_LEN_MAX);
-    uint16_t place = 0;
-    for (const auto &s : session) {
-        uint16_t before = place;
-        same("a step", kp_step(record.data(), record.size(), before, 8, s[0], s[1], s[2], s[3], 0, 0, 0, &place), 0);
-        same("its place", place, before + 1u);
-    }
+    uint16_t n = session(record, 0, 8);
     positions(record);
-    same("the report", kp_report(record.data(), record.size(), place, place), 20);
-    same("no reply", kp_report(record.data(), record.size(), place, 1), 5);
+    same("the report", kp_report(record.data(), record.size(), n, n), 20);
+    same("no reply", kp_report(record.data(), record.size(), n, 1), 5);
+}
+
+// Buyer 3 pays twice, first in a run and then step by step; his account is good at the first reply and not at the second. No one number of
+// account answers gives both codes, and both replies are reported 20.
+static void answers_of_each_call()
+{
+    static const uint16_t list[][KP_STEP_LEN] = {{1, 3, 2}, {2, 2, 1}, {3, 3, 1, 2}, {4, 2, 2, 3}, {5, 4}};
+    std::vector<uint16_t> record(KP_RECORD_LEN_MAX);
+    uint8_t verdicts[5];
+    uint16_t n = 0;
+    same("the run", kp_run(record.data(), record.size(), 8, &list[0][0], 5 * KP_STEP_LEN, verdicts, 5, &n), 0);
+    n = session(record, n, 0);
+    same("the code of the first reply", record[4 * KP_MESSAGE_LEN + 4], 1);
+    same("the code of the second reply", record[9 * KP_MESSAGE_LEN + 4], 2);
+    same("the report on the first", kp_report(record.data(), record.size(), n, 5), 20);
+    same("the report on the second", kp_report(record.data(), record.size(), n, 10), 20);
 }
 
 int main()
@@ -110,6 +134,7 @@ int main()
     limits_of_a_run();
     limits_of_a_text();
     step_and_report();
+    answers_of_each_call();
     std::printf("%d differences\n", differences);
     return differences != 0;
 }
