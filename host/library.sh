@@ -2,8 +2,9 @@
 # library.sh: builds target/libhost.a, the entries for C, proved on the way, to be linked into programs of this machine.
 #
 # The toolchain compiles for x86-64 alone, and on x86-64 this is its archive as it stands. On another processor the module that it hands to its
-# compiler is compiled once more, by the same compiler with the same options but for the processor: the proved code is the same, the
-# archive is not. There the toolchain's own archive, for x86-64, stays in target/staticlib.
+# compiler is compiled once more, by the same compiler for this one: the proved code is the same, the archive is not. The options are the same but
+# for the processor, and warnings are no errors, as the module names an x86-64 processor that is then ignored. There the toolchain's own archive,
+# for x86-64, stays in target/staticlib.
 set -eu
 cd "$(dirname "$0")/.."
 machine=$(uname -m)
@@ -18,7 +19,7 @@ links() {
     done
 }
 
-# compiler FILE: writes a compiler that does as the toolchain's, and then compiles the same module for this machine into $2
+# compiler FILE OBJECT: writes a compiler that does as the toolchain's, and then compiles the same module for this machine into OBJECT
 compiler() {
     cat >"$1" <<END
 #!/usr/bin/env bash
