@@ -129,12 +129,29 @@ static void answers_of_each_call()
     same("the report on the second", kp_report(record.data(), record.size(), n, 10), 20);
 }
 
+// Buyer 3 pays with step 38: his Payment has the slip under key 0 in both places, the seller asks with it, and the house refuses. The code
+// after the greatest is no step.
+static void paid_under_key_0()
+{
+    const unsigned steps[][5] = {{1, 3, 2, 0, 0}, {2, 2, 1, 0, 0}, {KP_CODE_MAX, 3, 1, 2, 0}, {4, 2, 2, 3, 0}, {5, 4, 0, 0, 6}, {KP_CODE_MAX + 1, 3, 1, 2, 2}};
+    std::vector<uint16_t> record(KP_RECORD_LEN_MAX);
+    uint16_t n = 0;
+    for (const auto &s : steps) {
+        uint16_t place = 0;
+        same("a step", kp_step(record.data(), record.size(), n, 8, s[0], s[1], s[2], s[3], 0, 0, 0, &place), s[4]);
+        n = place == 0 ? n : place;
+    }
+    same("four messages", n, 4);
+    message(record, 3, {3, 3, 3, 2, /**/ 0, 2, 3, 3, 1, 3, 3, 3, 1, /**/ 3, /**/ 0, 2, 3, 3, 1, 3, 3, 3, 1, /**/ 2, 3, 3, 1, 3});
+}
+
 int main()
 {
     limits_of_a_run();
     limits_of_a_text();
     step_and_report();
     answers_of_each_call();
+    paid_under_key_0();
     std::printf("%d differences\n", differences);
     return differences != 0;
 }

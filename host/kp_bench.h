@@ -10,11 +10,11 @@
  * has the four messages of its payment earlier in the record, unless buyer and seller are both the outsider. And from it every honest
  * session of five steps is accepted, other steps between or not, if there is room at each.
  *
- * Numbers returned: 0 accepted; 1 the record is not lawful (its length, its count or a message); 2 no such code; 3 a party or response
- * code out of range, or an unused argument not 0; 4 no such place; 5 a message named holds no such item or has the wrong kind; 6 an
- * honest step's condition does not hold; 7 all room is used; 8 the list is not a whole number of steps, or over 1,024; 9 fewer verdict
- * bytes than steps; 10 a line of a text is unreadable; 11 the text is too long or the step table too short; 20, 21, 22 the report on a
- * reply.
+ * Numbers returned: 0 accepted; 1 the record is not lawful (its length, its count or a message); 2 no such code, they are 1 to 38; 3 a party
+ * or response code out of range, or an unused argument not 0; 4 no such place; 5 a message named holds no such item or has the wrong
+ * kind; 6 an honest step's condition does not hold; 7 all room is used; 8 the list is not a whole number of steps, or over 1,024; 9 fewer
+ * verdict bytes than steps; 10 a line of a text is unreadable; 11 the text is too long or the step table too short; 20, 21, 22 the report
+ * on a reply.
  */
 #ifndef KP_BENCH_H
 #define KP_BENCH_H
@@ -30,6 +30,7 @@
 #define KP_STEPS_MAX 1024       /* the most steps of a list */
 #define KP_STEPS_LEN_MAX 7168   /* a list of so many, and the least table that kp_read takes */
 #define KP_TEXT_LEN_MAX 16384   /* the most bytes of a text */
+#define KP_CODE_MAX 38          /* the greatest code of a step */
 
 #ifdef __cplusplus
 extern "C" {

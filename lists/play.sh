@@ -1,6 +1,6 @@
 #!/usr/bin/env bash
 # play.sh PROGRAM INDEPENDENT [SEED]: plays lists on the proved program and holds what it prints to two other sources: the independent program,
-# on every text here, and what document 01 says, for the lists in this folder (expected) and for damaged texts (below). It fails on any
+# on every text here, and what documents 01 and 02 say, for the lists in this folder (expected) and for damaged texts (below). It fails on any
 # difference. Its last line is `N texts, M differences`.
 set -u
 if [ $# -lt 2 ] || [ ! -x "$1" ] || [ ! -x "$2" ]; then
@@ -40,7 +40,7 @@ expect() {
     compare "$1" "$2"
     : >"$room/wanted"
     [ -z "$3" ] || printf '%s\n' "$3" | sed 's| / |\n|g' | tr ' ' '\t' >"$room/wanted"
-    cmp -s "$room/printed" "$room/wanted" || differs "$1: from what 01 says"
+    cmp -s "$room/printed" "$room/wanted" || differs "$1: from what the papers say"
     local rows=${3:-nothing}
     [ ${#rows} -le 60 ] || rows=${rows:0:60}..
     echo "$1: $rows"

@@ -14,7 +14,7 @@ use Rattle.messages.proofs.Chain.{bounds}
 use Rattle.messages.specs.Layout.{AuthRequest, AuthResponse, Initiate, Invoice, Payment}
 use Rattle.record.proofs.Cut.{cut-at, part}
 use Rattle.lawful.proofs.Rows.{even-at, mapped}
-use Rattle.rules.specs.Codes.{Argument, Item, Row, known, letter, row, rowOf, rows, starts, unused}
+use Rattle.rules.specs.Codes.{Argument, Item, Row, known, letter, mostCode, row, rowOf, rows, starts, unused}
 use Rattle.rules.specs.Forged.{given, gives}
 use Rattle.rules.specs.Step.{argumentsOf, codeOf}
 use Rattle.arguments.specs.Given.{foundIn}
@@ -30,20 +30,20 @@ abbrev none : Row
 none = row starts []
 
 -- the lent table has six letters for each code, and those from a code's place on are its row
-pub lent-long : {lent : List ℕ} → lent ≡ tableLetters → length lent ≡ 222
+pub lent-long : {lent : List ℕ} → lent ≡ tableLetters → length lent ≡ mostCode * 6
 unfolding tableLetters
 lent-long e = ap length e
 
-pub lent-row : {lent : List ℕ} (code : ℕ) → lent ≡ tableLetters → 1 ≤ code → code ≤ 37
+pub lent-row : {lent : List ℕ} (code : ℕ) → lent ≡ tableLetters → 1 ≤ code → code ≤ mostCode
     → take ((code - 1) * 6 + 6 - (code - 1) * 6) (drop ((code - 1) * 6) lent) ≡ rowLetters (rowOf code)
 unfolding tableLetters
 lent-row {lent} code e l k =
     part ((code - 1) * 6) 6 lent (omega (arith, lent-long e)) .0
     ∙ ap (λ (z : List ℕ). take 6 (drop ((code - 1) * 6) z)) e
-    ∙ sym (cut-at 6 37 tableLetters (code - 1) (omega arith))
+    ∙ sym (cut-at 6 mostCode tableLetters (code - 1) (omega arith))
     ∙ mapped rowLetters rows (code - 1) none [] (omega arith)
 
-pub six : (code : ℕ) → 1 ≤ code → code ≤ 37 → length (rowOf code .takes) ≡ 6
+pub six : (code : ℕ) → 1 ≤ code → code ≤ mostCode → length (rowOf code .takes) ≡ 6
 six code l k =
     sym (ap length (List·getD-map takesOf rows (code - 1) none)) ∙ even-at 6 (map takesOf rows) (takesOf none) refl (code - 1) (omega arith)
 
@@ -86,8 +86,8 @@ known-step {s = s} l e r =
     record {
       seven = l;
       its-row = r;
-      low = bounds 1 (codeOf s) 37 e .0;
-      high = bounds 1 (codeOf s) 37 e .1;
+      low = bounds 1 (codeOf s) mostCode e .0;
+      high = bounds 1 (codeOf s) mostCode e .1;
     }
 
 -- the arguments of a step are its numbers after the code

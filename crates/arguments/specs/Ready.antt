@@ -5,7 +5,7 @@ use mathlib.Core.Path.{_≡_}
 use Prim.Native.Nat.{ℕ, _≤_, _*_}
 use lib.ListN.{length}
 use Rattle.messages.specs.Layout.{messageWidth}
-use Rattle.rules.specs.Codes.{rowOf}
+use Rattle.rules.specs.Codes.{mostCode, rowOf}
 use Rattle.rules.specs.Items.{eachArgument, placed}
 use Rattle.rules.specs.Step.{argumentsOf, codeOf}
 use Rattle.arguments.specs.Lent.{rowLetters}
@@ -14,7 +14,7 @@ use Rattle.arguments.specs.Lent.{rowLetters}
 pub record Known (row s : List ℕ) : Type 0 where
   pub seven : length s ≡ 7
   pub low : 1 ≤ codeOf s
-  pub high : codeOf s ≤ 37
+  pub high : codeOf s ≤ mostCode
   pub its-row : row ≡ rowLetters (rowOf (codeOf s))
 
 -- and every place that it names in 1..n, in a table with room for n messages

@@ -1,6 +1,7 @@
--- What the code of a step does: the rows of the forged kinds are neighbours in the table, and only steps 2 to 5 have a condition.
+-- What the code of a step does: the rows of the forged kinds are neighbours in the table, and only the honest steps after the first have a condition.
 use mathlib.Core.Bool.{Bool, true, false, true≢false}
 use mathlib.Core.List.{List, [], map}
+use mathlib.Core.Logic.{_⊎_, inl, inr}
 use mathlib.Core.Path.{_≡_, _∙_, refl, sym, ap}
 use Prim.Native.Nat.{ℕ, _+_, _-_, _≤_, _<_}
 use native.Mathlib.Omega.{arith}
@@ -12,7 +13,7 @@ use Rattle.messages.specs.Layout.{Kind}
 use Rattle.messages.specs.Parts.{Message}
 use Rattle.messages.specs.Tests.{all}
 use Rattle.record.specs.Table.{Record, messages}
-use Rattle.rules.specs.Codes.{Argument, Deed, Row, asks, forges, invoices, pays, replies, row, rowOf, rows, starts}
+use Rattle.rules.specs.Codes.{Argument, Deed, Row, asks, forges, invoices, mostCode, pays, replies, row, rowOf, rows, starts}
 use Rattle.rules.specs.Honest.{holds}
 use Rattle.rules.specs.Step.{added, argumentsOf, claims, codeOf}
 use Rattle.forged.specs.Outside.{forgedIn}
@@ -44,11 +45,11 @@ unfolding forgedIn
 forges-so answers n t s k e p =
     p ∙ ap (λ (d : Deed). added (messages n t) (rowOf (codeOf s) .takes) (argumentsOf s) answers d) (sym e)
 
--- only steps 2 to 5 have a condition
+-- only the honest steps after the first have a condition
 abbrev free : Deed → Bool
 free starts = true
 free invoices = false
-free pays = false
+free (pays key) = false
 free asks = false
 free replies = false
 free (forges k) = true
@@ -59,16 +60,23 @@ isFree x = free (x .deed)
 freely : (R : Record) (ks : List Argument) (xs : List ℕ) (d : Deed) → free d ≡ true → true ≡ all holds (claims R ks xs d)
 freely R ks xs starts e = refl
 freely R ks xs invoices e = absurd (true≢false (sym e))
-freely R ks xs pays e = absurd (true≢false (sym e))
+freely R ks xs (pays key) e = absurd (true≢false (sym e))
 freely R ks xs asks e = absurd (true≢false (sym e))
 freely R ks xs replies e = absurd (true≢false (sym e))
 freely R ks xs (forges k) e = refl
 
-pub unconditional : (n : ℕ) (t s : List ℕ) → 1 ≤ codeOf s → codeOf s ≤ 37 → (codeOf s ≡ 2 → ⊥) → (codeOf s ≡ 3 → ⊥) → (codeOf s ≡ 4 → ⊥)
-    → (codeOf s ≡ 5 → ⊥) → true ≡ allowedIn n t s
-unconditional n t s l h two three four five =
+pub unconditional : (n : ℕ) (t s : List ℕ) → 1 ≤ codeOf s → codeOf s ≤ mostCode → (codeOf s ≡ 2 → ⊥) → (((codeOf s ≡ 3) ⊎ (codeOf s ≡ 38)) → ⊥)
+    → (codeOf s ≡ 4 → ⊥) → (codeOf s ≡ 5 → ⊥) → true ≡ allowedIn n t s
+unconditional n t s l h two pays-so four five =
     freely (messages n t) (rowOf (codeOf s) .takes) (argumentsOf s) (rowOf (codeOf s) .deed) (by (leb (codeOf s) 1) refl)
   where
+    three : codeOf s ≡ 3 → ⊥
+    three e = pays-so (inl e)
+
+    last : codeOf s ≡ 38 → ⊥
+    last e = pays-so (inr e)
+
     by : (b : Bool) → leb (codeOf s) 1 ≡ b → free (rowOf (codeOf s) .deed) ≡ true
     by true e = neighbours isFree 0 1 true refl (codeOf s) (omega arith) (omega (arith, leb-true (codeOf s) 1 e))
-    by false e = neighbours isFree 5 32 true refl (codeOf s) (omega (arith, leb-false (codeOf s) 1 e)) (omega arith)
+    by false e =
+        neighbours isFree 5 32 true refl (codeOf s) (omega (arith, leb-false (codeOf s) 1 e, three)) (omega (arith, last))

@@ -2,6 +2,7 @@
 -- written out, where the row computes.
 use mathlib.Core.Bool.{Bool, true}
 use mathlib.Core.List.{List, [], _∷_}
+use mathlib.Core.Logic.{_⊎_, ⊎-elim}
 use mathlib.Core.Path.{_≡_, _∙_, refl, sym, ap, subst}
 use Prim.Native.Nat.{ℕ, zero, suc, _+_, _*_, _≤_, _<_}
 use native.Mathlib.Nat.{le-of-suc-le-suc, not-suc-le-zero}
@@ -42,6 +43,15 @@ pub at-code : {A : Type 0} (f : List ℕ → A) {r : A} (s : List ℕ) (code : �
 unfolding written-out
 at-code f {r} s code l e p = subst (λ (z : List ℕ). r ≡ f z) (sym (explicit s l ∙ ap (λ (c : ℕ). coded c s) e)) p
 
+-- a step of one of two codes that come to the same
+pub at-either : {A : Type 0} (f : List ℕ → A) {r : A} (s : List ℕ) (code other : ℕ) → length s ≡ 7 → (codeOf s ≡ code) ⊎ (codeOf s ≡ other)
+    → f (coded code s) ≡ f (coded other s) → r ≡ f (coded code s) → r ≡ f s
+at-either f s code other l e same p = ⊎-elim (λ z. at-code f s code l z p) (λ z. at-code f s other l z (p ∙ same)) e
+
+-- what a code takes
+pub taken : {k code : ℕ} → k ≡ code → rowOf k .takes ≡ rowOf code .takes
+taken e = ap (λ (c : ℕ). rowOf c .takes) e
+
 -- entry i of a row is passed
 passed-at : (f : Argument → ℕ → Bool) (ks : List Argument) (xs : List ℕ) (i : ℕ) → i < length ks → i < length xs
     → eachArgument f ks xs ≡ true → f (getD ks i Argument.unused) (getD xs i 0) ≡ true
@@ -59,13 +69,13 @@ module _ {n : ℕ} {t row s : List ℕ} (ready : Ready n t row s) where
       (subst (λ (z : ℕ). i < z) (sym (six (codeOf s) (ready .known .low) (ready .known .high))) h)
       (subst (λ (z : ℕ). i < z) (sym (six-arguments s (ready .known .seven))) h) (ready .places))
 
-  -- argument i is the place of a message, by what the row of this code has there
-  module _ (code i : ℕ) (e : codeOf s ≡ code) (h : i < 6)
-      (w : placed n (getD (rowOf code .takes) i Argument.unused) (getD s (i + 1) 0) ≡ placed n (Argument.at
+  -- argument i is the place of a message, by what the step's row has there
+  module _ (i : ℕ) {ks : List Argument} (e : rowOf (codeOf s) .takes ≡ ks) (h : i < 6)
+      (w : placed n (getD ks i Argument.unused) (getD s (i + 1) 0) ≡ placed n (Argument.at
       Rattle.rules.specs.Codes.h) (getD s (i + 1) 0)) where
     in-range : placed n (Argument.at Rattle.rules.specs.Codes.h) (getD s (i + 1) 0) ≡ true
     in-range =
-        sym w ∙ subst (λ (c : ℕ). placed n (getD (rowOf c .takes) i Argument.unused) (getD s (i + 1) 0) ≡ true) e (named-place i h)
+        sym w ∙ subst (λ (js : List Argument). placed n (getD js i Argument.unused) (getD s (i + 1) 0) ≡ true) e (named-place i h)
 
     pub first-place : 1 ≤ getD s (i + 1) 0
     first-place = bounds 1 (getD s (i + 1) 0) n in-range .0

@@ -15,6 +15,9 @@ use honest::allowed::may_pay;
 use honest::allowed::may_reply;
 use messages::layout::MESSAGE_WIDTH;
 use messages::parts::Buyer;
+use messages::parts::FALSE_GATEWAY;
+use messages::parts::Gateway;
+use messages::parts::HOUSE;
 use messages::parts::Place;
 use messages::parts::Seller;
 use record::table::message;
@@ -42,14 +45,14 @@ pub fn is_allowed(t: &[u16], s: &[u16]) -> bool
     let code = s[0];
     match code {
         2 => may_invoice(Seller(s[1]), named(t, s[2])),
-        3 => may_pay(Buyer(s[1]), named(t, s[2]), named(t, s[3])),
+        3 | 38 => may_pay(Buyer(s[1]), named(t, s[2]), named(t, s[3])),
         4 => may_ask(Seller(s[1]), named(t, s[2]), named(t, s[3])),
         5 => may_reply(named(t, s[1])),
         _ => true,
     }
 }
 
-// One match on the 37 codes, with ranges for the forged kinds. The message is made only for a step that is accepted.
+// One match on the 38 codes, with ranges for the forged kinds. The message is made only for a step that is accepted.
 pub fn added(t: &[u16], n: usize, answers: u16, row: &[u8], s: &[u16]) -> [u16; MESSAGE_WIDTH]
     requires { ⌜ Ready n (now t) (now row) (now s) × (n < 65535) ⌝ }
     ensures { λ r. ⌜ r ≡ addedIn answers n (now (t .entry)) (now (s .entry)) ⌝ }
@@ -58,9 +61,10 @@ pub fn added(t: &[u16], n: usize, answers: u16, row: &[u8], s: &[u16]) -> [u16; 
     match code {
         1 => started(Buyer(s[1]), Seller(s[2]), Place(n + 1)),
         2 => invoiced(Seller(s[1]), named(t, s[2])),
-        3 => paid(Buyer(s[1]), named(t, s[2])),
+        3 => paid(Gateway(HOUSE), Buyer(s[1]), named(t, s[2])),
         4 => asked(Seller(s[1]), named(t, s[2]), named(t, s[3])),
         5 => replied(answers, named(t, s[1])),
+        38 => paid(Gateway(FALSE_GATEWAY), Buyer(s[1]), named(t, s[2])),
         6..=7 => forge_initiate(t, row, s),
         8..=13 => forge_invoice(t, row, s),
         14..=21 => forge_payment(t, row, s),

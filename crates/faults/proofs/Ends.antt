@@ -14,7 +14,7 @@ use Rattle.messages.specs.Tests.{all}
 use Rattle.record.proofs.Cut.{all-from}
 use Rattle.record.specs.Table.{Record}
 use Rattle.rules.proofs.Tests.{all-member, member-at}
-use Rattle.rules.specs.Codes.{Argument, Row, letter, row, rowOf, rows, starts, unused}
+use Rattle.rules.specs.Codes.{Argument, Row, letter, mostCode, row, rowOf, rows, starts, unused}
 use Rattle.rules.specs.Items.{eachArgument, holding, inRange, placed}
 use Rattle.rules.specs.Step.{argumentsOf, codeOf}
 use Rattle.arguments.proofs.Takes.{argument-at, letter-at, six, six-arguments, tells}
@@ -37,7 +37,7 @@ all-drop f [] e (suc k) = refl
 all-drop f (x ∷ xs) e (suc k) = all-drop f xs (right-of (f x) (all f xs) e) k
 
 -- over the whole table at once
-row-ends : (code : ℕ) → 1 ≤ code → code ≤ 37 → ends (rowOf code .takes) ≡ true
+row-ends : (code : ℕ) → 1 ≤ code → code ≤ mostCode → ends (rowOf code .takes) ≡ true
 row-ends code l h = all-member endsRow rows (rowOf code) refl (member-at rows (row starts []) (code - 1) (omega arith))
 
 from-unused : (ks : List Argument) (i : ℕ) → ends ks ≡ true → i < length ks → isUnused (getD ks i unused) ≡ true → all isUnused (drop i ks) ≡ true

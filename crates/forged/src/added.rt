@@ -19,6 +19,7 @@ use messages::layout::MESSAGE_WIDTH;
 use messages::parts::Account;
 use messages::parts::Buyer;
 use messages::parts::Drawn;
+use messages::parts::FALSE_GATEWAY;
 use messages::parts::Gateway;
 use messages::parts::HOUSE;
 use messages::parts::Hashed;
@@ -168,10 +169,16 @@ pub fn forge_response(t: &[u16], row: &[u8], s: &[u16]) -> [u16; MESSAGE_WIDTH]
     let mark = g.mark;
     let code = number(b'c', row, s);
     let built = ReplySigned {
-        signer: Gateway(0),
+        signer: Gateway(FALSE_GATEWAY),
         code,
         mark,
     };
     let signed = reply_signature(t, row, s, built);
-    auth_response(Gateway(0), Gateway(HOUSE), g.seller, code, signed)
+    auth_response(
+        Gateway(FALSE_GATEWAY),
+        Gateway(HOUSE),
+        g.seller,
+        code,
+        signed,
+    )
 }

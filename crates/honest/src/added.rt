@@ -1,4 +1,4 @@
-// The messages that the five honest steps add.
+// The messages that the honest steps add.
 use crate::allowed::order_mark;
 use building::build::auth_request;
 use building::build::auth_response;
@@ -68,14 +68,15 @@ pub fn invoiced(seller: Seller, initiate: &[u16]) -> [u16; MESSAGE_WIDTH]
     invoice(seller, seller, buyer, mark, signed)
 }
 
-pub fn paid(buyer: Buyer, initiate: &[u16]) -> [u16; MESSAGE_WIDTH]
+// Step 3 pays under the house's key, step 38 under the false gateway's.
+pub fn paid(key: Gateway, buyer: Buyer, initiate: &[u16]) -> [u16; MESSAGE_WIDTH]
     requires { ⌜ length (now initiate) ≡ messageWidth ⌝ }
-    ensures { λ r. ⌜ r ≡ paidBy buyer (now (initiate .entry)) ⌝ }
+    ensures { λ r. ⌜ r ≡ paidBy key buyer (now (initiate .entry)) ⌝ }
 {
     let mark = order_mark(buyer, initiate);
     let drawn = mark.hashed.drawn;
     let slip = Slip {
-        key: Gateway(HOUSE),
+        key,
         mark,
         account: Account(buyer.0),
         drawn,

@@ -1,4 +1,5 @@
-// The conditions of the honest steps 2 to 5: a step whose condition does not hold is refused with 6. Step 1 is always allowed.
+// The conditions of the honest steps: a step whose condition does not hold is refused with 6. Step 1 is always allowed, and 38 has the
+// condition of step 3.
 use crate::claims::goes;
 use crate::claims::is_signed_by_buyer;
 use crate::claims::is_signed_by_seller;

@@ -37,8 +37,10 @@ pub struct Account(pub u16);
 
 pub struct Place(pub usize);
 
-// Gateway 1.
+// Gateway 1 is the house, gateway 0 the outsider's false one.
 pub const HOUSE: u16 = 1;
+
+pub const FALSE_GATEWAY: u16 = 0;
 
 // Who drew a random number, and the number.
 pub struct Drawn {

@@ -146,7 +146,7 @@ module _ (answers room : ℕ) (R : Record) (ks : List Argument) (xs : List ℕ) 
   deed-agreed : (d : Deed) → Taken room R d ks xs → AgreedOn R (added R ks xs answers d)
   deed-agreed starts t h n = absurd (false≢true h)
   deed-agreed invoices t h n = absurd (false≢true h)
-  deed-agreed pays t h n = absurd (false≢true h)
+  deed-agreed (pays key) t h n = absurd (false≢true h)
   deed-agreed asks t h n = absurd (false≢true h)
   deed-agreed replies t h n =
       let q = named t AuthRequest (t .complete-row) in

@@ -1,14 +1,16 @@
 -- An accepted step by what its code does, never by its number: what it names stands in the record and has the kind or the item that is
--- wanted. One computed test of the 37 rows says that each row has what its deed reads.
+-- wanted. One computed test of all rows says that each row has what its deed reads.
 use mathlib.Core.Bool.{Bool, true, false, _&&_, _||_}
 use mathlib.Core.List.{List, []}
 use mathlib.Core.Path.{_≡_, _∙_, refl, sym, subst}
 use Prim.Native.Nat.{ℕ, _-_}
 use lib.ListN.{length}
 use native.Mathlib.Omega.{arith}
+use Rattle.lawful.specs.Lawful.{gateways, within}
 use Rattle.messages.proofs.Chain.{bounds, left-of, right-of}
 use Rattle.messages.specs.Layout.{AuthRequest, AuthResponse, Initiate, Invoice, Kind, Payment}
 use Rattle.messages.specs.Parts.{Message}
+use Rattle.messages.specs.declared.parts.Gateway.{Gateway}
 use Rattle.record.specs.Table.{Record, messageAt}
 use Rattle.messages.specs.Tests.{all, between}
 use Rattle.rules.proofs.Accepted.{Passed, is-accepted}
@@ -20,7 +22,7 @@ use Rattle.rules.specs.Forged.{copied, given, gives, itemOr}
 use Rattle.rules.specs.Items.{holding, inRange, isKind, placed, yields}
 use Rattle.rules.specs.Step.{Step, accepted, added, argumentsOf, codeOf, judge}
 
--- what a row must have so that a message can be built: the messages that an honest step names; of a forged message a response code,
+-- what a row must have so that a message can be built: the messages that an honest step names, and a key that there is; of a forged message a response code,
 -- the signatures that are not built, and whatever its parts are built from
 module _ (ks : List Argument) where
   abbrev has : Item → Bool
@@ -38,7 +40,7 @@ module _ (ks : List Argument) where
   abbrev pub complete : Deed → Bool
   complete starts = true
   complete invoices = gives (Argument.the Initiate) ks
-  complete pays = gives (Argument.the Initiate) ks && gives (Argument.the Invoice) ks
+  complete (pays key) = within gateways (key .0) && (gives (Argument.the Initiate) ks && gives (Argument.the Invoice) ks)
   complete asks = gives (Argument.the Invoice) ks && gives (Argument.the Payment) ks
   complete replies = gives (Argument.the AuthRequest) ks
   complete (forges Initiate) = hashedBuilt
@@ -50,6 +52,10 @@ module _ (ks : List Argument) where
 pub two-named : (ks : List Argument) (a b : Kind) → (gives (Argument.the a) ks && gives (Argument.the b) ks) ≡ true
     → (gives (Argument.the a) ks ≡ true) × (gives (Argument.the b) ks ≡ true)
 two-named ks a b e = (left-of _ _ e, right-of (gives (Argument.the a) ks) _ e)
+
+pub paying : (key : Gateway) (ks : List Argument) → complete ks (pays key) ≡ true
+    → (gives (Argument.the Initiate) ks ≡ true) × (gives (Argument.the Invoice) ks ≡ true)
+paying key ks e = two-named ks Initiate Invoice (right-of (within gateways (key .0)) _ e)
 
 abbrev completeRow : Row → Bool
 completeRow x = complete (x .takes) (x .deed)

@@ -11,7 +11,7 @@ use lib.ListN.{length, length-append}
 use native.Mathlib.Omega.{arith}
 use Rattle.messages.proofs.Chain.{inside, left-of, right-of}
 use Rattle.record.proofs.Cut.{length-cut}
-use Rattle.lawful.specs.Lawful.{Range, accounts, buyers, codes, draws, fits, lawful, markRanges, sellers, slipRanges, within}
+use Rattle.lawful.specs.Lawful.{Range, accounts, buyers, codes, draws, fits, gateways, lawful, markRanges, sellers, slipRanges, within}
 use Rattle.messages.specs.Layout.{AuthRequest, AuthResponse, Initiate, Invoice, Kind, Payment, body, destination, invoiceSigned, messageWidth, paymentSigned, replySigned, requestBuyerSigned, requestSigned, requestSlip, source}
 use Rattle.messages.specs.Parts.{Message, accountOf, buyerAt, drawnAt, drawnNumbers, drawnWidth, hashedAt, hashedWidth, markAt, markNumbers, markWidth, sellerAt, slipAt, slipNumbers, slipWidth}
 use Rattle.messages.specs.Signed.{buyerSignedAt, buyerSignedWidth, invoiceSignedWidth, replySignedWidth, requestSignedWidth}
@@ -20,19 +20,20 @@ use Rattle.messages.specs.Tests.{all}
 use Rattle.messages.specs.declared.parts.Account.{Account}
 use Rattle.messages.specs.declared.parts.Buyer.{Buyer}
 use Rattle.messages.specs.declared.parts.Drawn.{Drawn}
+use Rattle.messages.specs.declared.parts.Gateway.{Gateway}
 use Rattle.messages.specs.declared.parts.Mark.{Mark}
 use Rattle.messages.specs.declared.parts.Seller.{Seller}
 use Rattle.messages.specs.declared.parts.Slip.{Slip}
 use Rattle.rules.proofs.Accepted.{is-accepted}
 use Rattle.rules.proofs.Arguments.{not-given, passed-given}
-use Rattle.rules.proofs.Deeds.{Taken, by-deed, hashedBuilt, item-of, markBuilt, member-place, named, ranged, slipBuilt, two-named}
+use Rattle.rules.proofs.Deeds.{Taken, by-deed, hashedBuilt, item-of, markBuilt, member-place, named, paying, ranged, slipBuilt, two-named}
 use Rattle.rules.proofs.Ranges.{BuyerSigned✓, Hashed✓, InvoiceSigned✓, Mark✓, ReplySigned✓, RequestSigned✓, Slip✓, fits-append, fits-at, fits-part, lawful-initiate, lawful-invoice, lawful-number, lawful-part, lawful-payment, lawful-reply, lawful-request}
 use Rattle.rules.proofs.Reached.{kept-reached}
 use Rattle.rules.proofs.Tests.{all-append, all-member, both, either, other, picked}
 use Rattle.rules.specs.Agreed.{_∈_}
 use Rattle.rules.specs.Codes.{Argument, Deed, Item, asks, forges, invoices, pays, replies, starts}
-use Rattle.rules.specs.Forged.{account, buyer, buyerSignature, code, drawn, given, gives, hashed, invoiceSignature, itemOr, mark, noBuyer, noGateway, noSeller, replySignature, requestSignature, seller, slip}
-use Rattle.rules.specs.Honest.{codeFor, good, house, markFor, orderMark, slipUnder}
+use Rattle.rules.specs.Forged.{account, buyer, buyerSignature, code, drawn, given, gives, hashed, invoiceSignature, itemOr, mark, noBuyer, noSeller, replySignature, requestSignature, seller, slip}
+use Rattle.rules.specs.Honest.{codeFor, falseGateway, good, house, markFor, orderMark, slipUnder}
 use Rattle.rules.specs.Items.{buyerSignedIn, drawnIn, hasSlip, hashedIn, holding, inRange, invoiceSignedIn, isKind, markIn, placed, readable, replySignedIn, requestSignedIn, slipIn, yields}
 use Rattle.rules.specs.Reached.{HoldsReached, Reached}
 use Rattle.rules.specs.Run.{Call, judgeCall}
@@ -56,9 +57,10 @@ slip-drawn y e = fits-part slipRanges (slipNumbers y) e (1 + markWidth + 1) draw
 hashed-of : (r : Drawn) (a : Account) → Drawn✓ r → Account✓ a → Hashed✓ (record { drawn = r; account = a })
 hashed-of r a e f = fits-append (buyers ∷ draws ∷ []) (accounts ∷ []) (drawnNumbers r) (a .0 ∷ []) e (both f refl)
 
-slip-of : (x : Mark) (a : Account) (r : Drawn) → Mark✓ x → Account✓ a → Drawn✓ r → Slip✓ (slipUnder house x a r)
-slip-of x a r e f g =
-    fits-append markRanges (accounts ∷ buyers ∷ draws ∷ []) (markNumbers x) (a .0 ∷ drawnNumbers r) e (both f g)
+slip-of : (key : Gateway) (x : Mark) (a : Account) (r : Drawn) → within gateways (key .0) ≡ true → Mark✓ x → Account✓ a → Drawn✓ r
+    → Slip✓ (slipUnder key x a r)
+slip-of key x a r k e f g =
+    both k (fits-append markRanges (accounts ∷ buyers ∷ draws ∷ []) (markNumbers x) (a .0 ∷ drawnNumbers r) e (both f g))
 
 buyer-signed-of : (b : Buyer) (y : Slip) (x : Mark) → within buyers (b .0) ≡ true → Slip✓ y → Mark✓ x
     → BuyerSigned✓ (record { signer = b; slip = y; mark = x })
@@ -167,7 +169,7 @@ module _ {room : ℕ} {R : Record} {d : Deed} {ks : List Argument} {xs : List �
       item✓ Slip✓ Item.e slipIn (slipUnder house (mark R ks xs) (account R ks xs) (drawn R ks xs)) slip-in
       (λ n.
       let built = other (gives (Argument.at Item.e) ks) (markBuilt ks && has-r) e n in
-      slip-of (mark R ks xs) (account R ks xs) (drawn R ks xs) (mark✓ (left-of _ _ built)) account✓
+      slip-of house (mark R ks xs) (account R ks xs) (drawn R ks xs) refl (mark✓ (left-of _ _ built)) account✓
       (drawn✓ (right-of (markBuilt ks) _ built)))
 
   invoice-signed✓ : markBuilt ks ≡ true → InvoiceSigned✓ (invoiceSignature R ks xs)
@@ -190,7 +192,7 @@ module _ {room : ℕ} {R : Record} {d : Deed} {ks : List Argument} {xs : List �
   reply-signed✓ : within codes (code R ks xs) ≡ true → (gives (Argument.at Item.g) ks || markBuilt ks) ≡ true
       → ReplySigned✓ (replySignature R ks xs)
   reply-signed✓ e f =
-      item✓ ReplySigned✓ Item.g replySignedIn (record { signer = noGateway; code = code R ks xs; mark = mark R ks xs })
+      item✓ ReplySigned✓ Item.g replySignedIn (record { signer = falseGateway; code = code R ks xs; mark = mark R ks xs })
       (λ w l y. lawful-part AuthResponse w l y replySigned replySignedWidth)
       (λ n. both e (mark✓ (other (gives (Argument.at Item.g) ks) (markBuilt ks) f n)))
 
@@ -217,17 +219,17 @@ module _ (answers room : ℕ) (small : room ≤ mostRoom) (R : Record) (ks : Lis
       let b = lawful-number Initiate I (i .0) (i .1) source in
       let x : Mark✓ (markFor S I) = both s (both b (lawful-part Initiate I (i .0) (i .1) body hashedWidth)) in
       lawful-invoice S S (buyerAt I source) (markFor S I) (record { signer = S; mark = markFor S I }) s s b x (both s x)
-  lawful-added pays t =
+  lawful-added (pays key) t =
       let B = theBuyer R ks xs in
       let I = theInitiate R ks xs in
       let S = sellerAt I destination in
       let x = orderMark B I in
-      let y = slipUnder house x (accountOf B) (hashedAt I body .drawn) in
-      let i = lawful-named all-lawful t Initiate (two-named ks Initiate Invoice (t .complete-row) .0) in
+      let y = slipUnder key x (accountOf B) (hashedAt I body .drawn) in
+      let i = lawful-named all-lawful t Initiate (paying key ks (t .complete-row) .0) in
       let b = named-buyer✓ all-lawful t in
       let s = lawful-number Initiate I (i .0) (i .1) destination in
       let x✓ : Mark✓ x = both s (both b (lawful-part Initiate I (i .0) (i .1) body hashedWidth)) in
-      let y✓ : Slip✓ y = slip-of x (accountOf B) (hashedAt I body .drawn) x✓ b (lawful-part Initiate I (i .0) (i .1) body drawnWidth) in
+      let y✓ : Slip✓ y = slip-of key x (accountOf B) (hashedAt I body .drawn) (left-of _ _ (t .complete-row)) x✓ b (lawful-part Initiate I (i .0) (i .1) body drawnWidth) in
       lawful-payment B B S y (record { signer = B; slip = y; mark = x }) b b s y✓ (buyer-signed-of B y x b y✓ x✓)
   lawful-added asks t =
       let S = theSeller R ks xs in
@@ -271,7 +273,7 @@ module _ (answers room : ℕ) (small : room ≤ mostRoom) (R : Record) (ks : Lis
       (buyer-signed✓ all-lawful t e (ap (λ (b : Bool). gives (Argument.at Item.p) ks || b) f ∙ or-true (gives (Argument.at Item.p) ks)))
   lawful-added (forges AuthResponse) t =
       let c = ranged t Argument.c (left-of _ _ (t .complete-row)) in
-      lawful-reply noGateway house (seller R ks xs) (code R ks xs) (replySignature R ks xs) refl refl (seller✓ all-lawful t) c
+      lawful-reply falseGateway house (seller R ks xs) (code R ks xs) (replySignature R ks xs) refl refl (seller✓ all-lawful t) c
       (reply-signed✓ all-lawful t c (right-of (gives Argument.c ks) _ (t .complete-row)))
 
 -- every message of a reached record is lawful

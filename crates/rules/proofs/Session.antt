@@ -24,7 +24,7 @@ use Rattle.rules.proofs.Reached.{grown}
 use Rattle.rules.proofs.Reports.{agreed-report}
 use Rattle.rules.proofs.Tests.{both}
 use Rattle.rules.specs.Agreed.{Agreed, Reported, _∈_}
-use Rattle.rules.specs.Honest.{askClaims, asked, holds, invoiceClaims, invoiced, paid, payClaims, replied, replyClaims}
+use Rattle.rules.specs.Honest.{askClaims, asked, holds, house, invoiceClaims, invoiced, paid, payClaims, replied, replyClaims}
 use Rattle.rules.specs.Items.{isKind}
 use Rattle.rules.specs.Report.{earlier, itsInitiate, itsInvoice, itsPayment, itsRequest, replyMark, reportOn}
 use Rattle.rules.specs.Run.{Call, called, judgeCall}
@@ -139,7 +139,7 @@ module _ (c : Setting) (buyer✓ : within buyers (c .buyer .0) ≡ true) (seller
                   ∙ claimed (payClaims B (itsInitiate x) (itsInvoice x)) (refl, (refl, (refl, (refl, (refl, (refl, (refl, (refl, tt))))))));
               roomy = room .at3;
             };
-        message = ap (paid B) (sym (initiate3 .message));
+        message = ap (paid house B) (sym (initiate3 .message));
       })
 
   invoice4 : Placed (R4 c) (place2 c) (itsInvoice x)

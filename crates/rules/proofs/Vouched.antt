@@ -13,12 +13,13 @@ use Rattle.messages.specs.Parts.{Message, buyerAt, hashedAt, markAt, sellerAt, 
 use Rattle.messages.specs.Signed.{buyerSignedAt, requestSignedAt}
 use Rattle.record.specs.Table.{Record, messageAt}
 use Rattle.messages.specs.declared.parts.Buyer.{Buyer}
+use Rattle.messages.specs.declared.parts.Gateway.{Gateway}
 use Rattle.messages.specs.declared.parts.Mark.{Mark}
 use Rattle.messages.specs.declared.parts.Seller.{Seller}
 use Rattle.messages.specs.declared.signed.BuyerSigned.{BuyerSigned}
 use Rattle.messages.specs.declared.signed.RequestSigned.{RequestSigned}
 use Rattle.rules.proofs.Claims.{as-part, facts}
-use Rattle.rules.proofs.Deeds.{Taken, by-deed, item-of, named, two-named}
+use Rattle.rules.proofs.Deeds.{Taken, by-deed, item-of, named, paying, two-named}
 use Rattle.rules.proofs.Laid.{full-length, one-kind, relaid}
 use Rattle.rules.proofs.Reached.{kept-reached}
 use Rattle.rules.proofs.Tests.{other, picked}
@@ -156,16 +157,17 @@ module _ (answers room : ℕ) (R : Record) (ks : List Argument) (xs : List ℕ) 
           vouched = λ h. record { says = refl; initiate = (buyerAt I maker, grows _ (Memᴰ·cast sent-so (i .0))) };
         }
 
-    -- 3: the buyer's own Initiate, the Payment itself, and the Invoice that he was sent
-    payment-sound : (added R ks xs answers pays ∈ T) → Taken room R pays ks xs → Sound T (added R ks xs answers pays)
-    payment-sound new t =
+    -- 3 and 38: the buyer's own Initiate, the Payment itself, and the Invoice that he was sent
+    payment-sound : (key : Gateway) → (added R ks xs answers (pays key) ∈ T) → Taken room R (pays key) ks xs
+        → Sound T (added R ks xs answers (pays key))
+    payment-sound key new t =
         let B = theBuyer R ks xs in
         let I = theInitiate R ks xs in
         let J = theInvoice R ks xs in
         let S = sellerAt I destination in
         let x = orderMark B I in
-        let i = the-one t Initiate (two-named ks Initiate Invoice (t .complete-row) .0) in
-        let j = the-one t Invoice (two-named ks Initiate Invoice (t .complete-row) .1) in
+        let i = the-one t Initiate (paying key ks (t .complete-row) .0) in
+        let j = the-one t Invoice (paying key ks (t .complete-row) .1) in
         let f = facts (payClaims B I J) (t .passed .claimed) in
         let made : B ≡ buyerAt I maker = sym (as-part buyerAt (f .0)) in
         let sent : B ≡ buyerAt I source = sym (as-part buyerAt (f .1 .0)) in
@@ -253,7 +255,7 @@ module _ (answers room : ℕ) (R : Record) (ks : List Argument) (xs : List ℕ) 
     added-sound : (d : Deed) → (added R ks xs answers d ∈ T) → Taken room R d ks xs → Sound T (added R ks xs answers d)
     added-sound starts new t = record { kind = Initiate; laid = refl; sent = λ e. e; vouched = tt }
     added-sound invoices new t = invoice-sound t
-    added-sound pays new t = payment-sound new t
+    added-sound (pays key) new t = payment-sound key new t
     added-sound asks new t = request-sound new t
     added-sound replies new t = record { kind = AuthResponse; laid = refl; sent = λ e. e; vouched = tt }
     added-sound (forges Initiate) new t = record { kind = Initiate; laid = refl; sent = λ e. refl; vouched = tt }

@@ -1,10 +1,13 @@
--- Document 01's two tables of steps: for each of the 37 codes what is done and which arguments it takes, in order.
+-- The tables of steps, document 01's two and what 02 adds to them: for each of the 38 codes what is done and which arguments it takes, in
+-- order.
 use Prim.Native.Nat.{ℕ, _-_}
 use mathlib.Core.Bool.{Bool, _&&_}
 use mathlib.Core.List.{List, [], _∷_}
 use lib.Dec.{leb}
 use lib.ListN.{getD, length}
 use Rattle.messages.specs.Layout.{AuthRequest, AuthResponse, Initiate, Invoice, Kind, Payment, filled}
+use Rattle.messages.specs.declared.parts.Gateway.{Gateway}
+use Rattle.rules.specs.Honest.{falseGateway, house}
 
 -- what the outsider takes from a message at a place: h hashed account, m mark, e slip, r drawer and draw, v invoice signature,
 -- q seller's request signature, p buyer's signature, g gateway signature
@@ -18,8 +21,10 @@ pub data Argument : Type 0 where
   the : Kind → Argument
   at : Item → Argument
 
+-- a buyer pays with a slip under a gateway's key
 pub data Deed : Type 0 where
-  starts invoices pays asks replies : Deed
+  starts invoices asks replies : Deed
+  pays : Gateway → Deed
   forges : Kind → Deed
 
 pub record Row : Type 0 where
@@ -35,7 +40,7 @@ rows =
     -- 1 to 5: honest steps
     row starts (B ∷ S ∷ [])
     ∷ row invoices (S ∷ the Initiate ∷ [])
-    ∷ row pays (B ∷ the Initiate ∷ the Invoice ∷ [])
+    ∷ row (pays house) (B ∷ the Initiate ∷ the Invoice ∷ [])
     ∷ row asks (S ∷ the Invoice ∷ the Payment ∷ [])
     ∷ row replies (the AuthRequest ∷ [])
     -- 6 and 7: forged Initiates
@@ -75,11 +80,16 @@ rows =
     ∷ row (forges AuthResponse) (S ∷ c ∷ at m ∷ [])
     ∷ row (forges AuthResponse) (S ∷ B ∷ c ∷ at h ∷ [])
     ∷ row (forges AuthResponse) (S ∷ c ∷ a ∷ at r ∷ [])
+    -- 38: as 3, for a buyer who was sent to the false gateway
+    ∷ row (pays falseGateway) (B ∷ the Initiate ∷ the Invoice ∷ [])
     ∷ []
 
--- the row of a code; codes count from 1
+-- the row of a code; codes count from 1, and there are as many as rows
+abbrev pub mostCode : ℕ
+mostCode = length rows
+
 abbrev pub known : ℕ → Bool
-known code = leb 1 code && leb code (length rows)
+known code = leb 1 code && leb code mostCode
 
 abbrev pub rowOf : ℕ → Row
 rowOf code = getD rows (code - 1) (row starts [])

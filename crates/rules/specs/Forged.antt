@@ -22,7 +22,6 @@ use Rattle.record.specs.Table.{Record, messageAt}
 use Rattle.messages.specs.declared.parts.Account.{Account}
 use Rattle.messages.specs.declared.parts.Buyer.{Buyer}
 use Rattle.messages.specs.declared.parts.Drawn.{Drawn}
-use Rattle.messages.specs.declared.parts.Gateway.{Gateway}
 use Rattle.messages.specs.declared.parts.Hashed.{Hashed}
 use Rattle.messages.specs.declared.parts.Mark.{Mark}
 use Rattle.messages.specs.declared.parts.Seller.{Seller}
@@ -32,7 +31,7 @@ use Rattle.messages.specs.declared.signed.InvoiceSigned.{InvoiceSigned}
 use Rattle.messages.specs.declared.signed.ReplySigned.{ReplySigned}
 use Rattle.messages.specs.declared.signed.RequestSigned.{RequestSigned}
 use Rattle.rules.specs.Codes.{Argument, Item, letter}
-use Rattle.rules.specs.Honest.{house, slipUnder}
+use Rattle.rules.specs.Honest.{falseGateway, house, slipUnder}
 use Rattle.rules.specs.Items.{
   buyerSignedIn,
   drawnIn,
@@ -54,15 +53,12 @@ given k [] xs = 0
 given k (j ∷ js) [] = 0
 given k (j ∷ js) (x ∷ xs) = cond (eqb (letter j) (letter k)) x (given k js xs)
 
--- the outsider's names
+-- the outsider's names as a buyer and as a seller
 abbrev pub noBuyer : Buyer
 noBuyer = record { 0 = 0 }
 
 abbrev pub noSeller : Seller
 noSeller = record { 0 = 0 }
-
-abbrev pub noGateway : Gateway
-noGateway = record { 0 = 0 }
 
 module _ (R : Record) (ks : List Argument) (xs : List ℕ) where
   -- the message at the place that the step gives
@@ -116,7 +112,7 @@ module _ (R : Record) (ks : List Argument) (xs : List ℕ) where
   code = given Argument.c ks xs
 
   abbrev pub replySignature : ReplySigned
-  replySignature = itemOr Item.g replySignedIn (record { signer = noGateway; code = code; mark = mark })
+  replySignature = itemOr Item.g replySignedIn (record { signer = falseGateway; code = code; mark = mark })
 
   -- the maker is 0; source and destination are as named, gateway 1 where none is
   abbrev pub forged : Kind → Message
@@ -124,4 +120,4 @@ module _ (R : Record) (ks : List Argument) (xs : List ℕ) where
   forged Invoice = anInvoice noSeller seller buyer mark invoiceSignature
   forged Payment = aPayment noBuyer buyer seller slip buyerSignature
   forged AuthRequest = anAuthRequest noSeller seller house mark slip requestSignature buyerSignature
-  forged AuthResponse = anAuthResponse noGateway house seller code replySignature
+  forged AuthResponse = anAuthResponse falseGateway house seller code replySignature

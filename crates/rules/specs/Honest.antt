@@ -50,9 +50,12 @@ use Rattle.messages.specs.declared.parts.Seller.{Seller}
 use Rattle.messages.specs.declared.parts.Slip.{Slip}
 use Rattle.messages.specs.declared.signed.BuyerSigned.{BuyerSigned}
 
--- gateway 1 is the house
+-- gateway 1 is the house, gateway 0 the outsider's false one
 abbrev pub house : Gateway
 house = record { 0 = 1 }
+
+abbrev pub falseGateway : Gateway
+falseGateway = record { 0 = 0 }
 
 -- the messages that honest parties make, each made by its source
 abbrev pub initiateBy : Buyer → Seller → Hashed → Message
@@ -110,7 +113,7 @@ markFor S initiate = record { seller = S; buyer = buyerAt initiate source; hashe
 abbrev pub invoiced : Seller → Message → Message
 invoiced S initiate = invoiceBy S (buyerAt initiate source) (markFor S initiate)
 
--- 3: B, Initiate, Invoice
+-- 3 and 38: B, Initiate, Invoice
 abbrev pub orderMark : Buyer → Message → Mark
 orderMark B initiate = record { seller = sellerAt initiate destination; buyer = B; hashed = hashedAt initiate body }
 
@@ -129,10 +132,11 @@ payClaims B initiate invoice =
 abbrev pub slipUnder : Gateway → Mark → Account → Drawn → Slip
 slipUnder key x A r = record { key = key; mark = x; account = A; drawn = r }
 
-abbrev pub paid : Buyer → Message → Message
-paid B initiate =
+-- the slip is under key 1 in step 3, and under key 0 in step 38
+abbrev pub paid : Gateway → Buyer → Message → Message
+paid key B initiate =
     paymentBy B (sellerAt initiate destination)
-    (slipUnder house (orderMark B initiate) (accountOf B) (hashedAt initiate body .drawn)) (orderMark B initiate)
+    (slipUnder key (orderMark B initiate) (accountOf B) (hashedAt initiate body .drawn)) (orderMark B initiate)
 
 -- 4: S, Invoice, Payment
 abbrev pub askClaims : Seller → Message → Message → List Claim

@@ -85,7 +85,7 @@ module _ (R : Record) (ks : List Argument) (xs : List ℕ) where
   abbrev pub claims : Deed → List Claim
   claims starts = []
   claims invoices = invoiceClaims theSeller theInitiate
-  claims pays = payClaims theBuyer theInitiate theInvoice
+  claims (pays key) = payClaims theBuyer theInitiate theInvoice
   claims asks = askClaims theSeller theInvoice thePayment
   claims replies = replyClaims theRequest
   claims (forges k) = []
@@ -93,7 +93,7 @@ module _ (R : Record) (ks : List Argument) (xs : List ℕ) where
   abbrev pub added : ℕ → Deed → Message
   added answers starts = started theBuyer theSeller (newPlace R)
   added answers invoices = invoiced theSeller theInitiate
-  added answers pays = paid theBuyer theInitiate
+  added answers (pays key) = paid key theBuyer theInitiate
   added answers asks = asked theSeller theInvoice thePayment
   added answers replies = replied answers theRequest
   added answers (forges k) = forged R ks xs k
