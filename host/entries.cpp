@@ -133,7 +133,8 @@ static void answers_of_each_call()
 // after the greatest is no step.
 static void paid_under_key_0()
 {
-    const unsigned steps[][5] = {{1, 3, 2, 0, 0}, {2, 2, 1, 0, 0}, {KP_CODE_MAX, 3, 1, 2, 0}, {4, 2, 2, 3, 0}, {5, 4, 0, 0, 6}, {KP_CODE_MAX + 1, 3, 1, 2, 2}};
+    const unsigned steps[][5] = {{1, 3, 2, 0, 0}, {2, 2, 1, 0, 0}, {KP_CODE_MAX, 3, 1, 2, 0}, {4, 2, 2, 3, 0}, {5, 4, 0, 0, 6},
+                                 {KP_CODE_MAX + 1, 3, 1, 2, 2}};
     std::vector<uint16_t> record(KP_RECORD_LEN_MAX);
     uint16_t n = 0;
     for (const auto &s : steps) {

@@ -31,7 +31,7 @@ sellerSigned x k S y = sellerIs x k S ∷ markIs x (k + 1) y ∷ []
 abbrev pub buyerSigned : Message → ℕ → Buyer → Slip → Mark → List Claim
 buyerSigned x k B y z = buyerIs x k B ∷ slipIs x (k + 1) y ∷ markIs x (k + 1 + slipWidth) z ∷ []
 
--- step 3: an Initiate of the buyer's own
+-- steps 3 and 38: an Initiate of the buyer's own
 abbrev pub ownInitiate : Buyer → Message → List Claim
 ownInitiate B initiate = buyerIs initiate maker B ∷ buyerIs initiate source B ∷ accountIs initiate initiateAccount (accountOf B) ∷ []
 

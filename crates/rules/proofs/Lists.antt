@@ -1,4 +1,4 @@
--- P1 to P10 come out as document 01 says, by computation over the definitions. This stands behind the session, so that a rule under which
+-- The lists come out as documents 01 and 02 say, by computation over the definitions. This stands behind the session, so that a rule under which
 -- nothing is accepted is refused there first.
 use mathlib.Core.Bool.{true}
 use mathlib.Core.Path.{_≡_, refl}

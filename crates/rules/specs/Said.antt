@@ -1,5 +1,5 @@
 -- What is said of a list of steps: a row for each step, and a row for each house reply of the record that the steps leave. The program
--- prints these rows, and the table of P1 to P10 holds 01's words beside them.
+-- prints these rows, and the table of lists holds the papers' words beside them.
 use Prim.Native.Nat.{ℕ, _+_}
 use mathlib.Core.Bool.{cond}
 use mathlib.Core.List.{List, [], _∷_}
