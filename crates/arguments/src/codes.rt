@@ -9,6 +9,7 @@ const MOST_CODE: usize = 38;
 
 pub const MOST_ARGUMENTS: usize = 6;
 
+// The whole table, a letter for each argument of each code.
 pub const ALL_LETTERS: usize = MOST_CODE * MOST_ARGUMENTS;
 
 // What each of the six arguments of a step is, a row for each code from 1: B a buyer, S a seller, c a response code; the place of

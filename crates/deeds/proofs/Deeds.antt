@@ -1,4 +1,5 @@
--- What the code of a step does: the rows of the forged kinds are neighbours in the table, and only the honest steps after the first have a condition.
+-- What the code of a step does: the rows of the forged kinds are neighbours in the table, and only the honest steps after the first have a
+-- condition.
 use mathlib.Core.Bool.{Bool, true, false, true≢false}
 use mathlib.Core.List.{List, [], map}
 use mathlib.Core.Logic.{_⊎_, inl, inr}

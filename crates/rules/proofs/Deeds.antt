@@ -22,8 +22,8 @@ use Rattle.rules.specs.Forged.{copied, given, gives, itemOr}
 use Rattle.rules.specs.Items.{holding, inRange, isKind, placed, yields}
 use Rattle.rules.specs.Step.{Step, accepted, added, argumentsOf, codeOf, judge}
 
--- what a row must have so that a message can be built: the messages that an honest step names, and a key that there is; of a forged message a response code,
--- the signatures that are not built, and whatever its parts are built from
+-- what a row must have so that a message can be built: the messages that an honest step names, and a key that there is; of a forged
+-- message a response code, the signatures that are not built, and whatever its parts are built from
 module _ (ks : List Argument) where
   abbrev has : Item → Bool
   has i = gives (Argument.at i) ks

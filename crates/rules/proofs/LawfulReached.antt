@@ -229,7 +229,10 @@ module _ (answers room : ℕ) (small : room ≤ mostRoom) (R : Record) (ks : Lis
       let b = named-buyer✓ all-lawful t in
       let s = lawful-number Initiate I (i .0) (i .1) destination in
       let x✓ : Mark✓ x = both s (both b (lawful-part Initiate I (i .0) (i .1) body hashedWidth)) in
-      let y✓ : Slip✓ y = slip-of key x (accountOf B) (hashedAt I body .drawn) (left-of _ _ (t .complete-row)) x✓ b (lawful-part Initiate I (i .0) (i .1) body drawnWidth) in
+      let y✓ : Slip✓ y =
+      slip-of key x (accountOf B) (hashedAt I body .drawn) (left-of _ _ (t .complete-row)) x✓ b
+      (lawful-part Initiate I (i .0) (i .1) body drawnWidth)
+      in
       lawful-payment B B S y (record { signer = B; slip = y; mark = x }) b b s y✓ (buyer-signed-of B y x b y✓ x✓)
   lawful-added asks t =
       let S = theSeller R ks xs in

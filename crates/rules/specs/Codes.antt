@@ -21,7 +21,7 @@ pub data Argument : Type 0 where
   the : Kind → Argument
   at : Item → Argument
 
--- a buyer pays with a slip under a gateway's key
+-- what a step does: a buyer pays with a slip under the key of a gateway, the outsider forges a message of a kind
 pub data Deed : Type 0 where
   starts invoices asks replies : Deed
   pays : Gateway → Deed
