@@ -361,7 +361,7 @@ impl<'a> List<'a> {
         let any = self.dice.between(1, self.n as u16);
         let arg = takes(code).and_then(|args| args.get(position.checked_sub(1)?));
         match arg {
-            _ if position == 0 => self.dice.pick(&[0, 38, 39, 255, 256, 65_535]),
+            _ if position == 0 => self.dice.pick(&[0, 39, 40, 255, 256, 65_535]),
             Some(Arg::Buyer | Arg::Seller) => self.dice.pick(&[16, 17, 255, 256, 65_535]),
             Some(Arg::Code) => self.dice.pick(&[0, 3, 16, 257, 65_535]),
             Some(_) => self.dice.pick(&[0, after, 512, 513, 65_535, any, any, any]),
