@@ -1274,7 +1274,7 @@ fn a_run_agrees_with_its_steps_one_by_one() {
         }
         assert_eq!((game.n, &game.record), (usize::from(n), &record));
     }
-    assert_eq!(accepted, (1..=37).collect());
+    assert_eq!(accepted, (1..=38).collect());
 }
 
 #[test]
