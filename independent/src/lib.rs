@@ -1,10 +1,11 @@
-//! A second, independent implementation of the rule paper: one step against
-//! a record of messages, a run of a list, a report on a reply, a reader for
-//! the step text, and what the program prints.
+//! A second, independent implementation of the rules, which are paper 01 and
+//! request 1 of paper 02: one step against a record of messages, a run of a
+//! list, a report on a reply, a reader for the step text, and what the program
+//! prints.
 //!
-//! It is written from the paper alone and in its own style. Every message has
-//! a struct of its own, the argument table drives the checks numbered 3, 4
-//! and 5, and a forged message is filled in by the paper's "without" rules.
+//! It is written from these papers alone and in its own style. Every message
+//! has a struct of its own, the argument table drives the checks numbered 3, 4
+//! and 5, and a forged message is filled in by the "without" rules of 01.
 
 /// 16-bit numbers to a message.
 pub const WIDTH: usize = 48;
@@ -22,7 +23,8 @@ pub type Words = [u16; WIDTH];
 
 /// Gateway 1, the house; also its key.
 const HOUSE: u16 = 1;
-/// The outsider, as buyer, seller or gateway; also his account.
+/// The outsider, as buyer, seller or gateway; also his account, and the key of
+/// his false gateway.
 const OUTSIDER: u16 = 0;
 
 /// Why something is refused, with the paper's numbers.
@@ -374,9 +376,11 @@ impl Response {
 // the report looks for them.
 
 impl Slip {
-    /// The slip under the house's key that goes with a mark.
-    fn to_house(mark: Mark, account: u16, nonce: Nonce) -> Self {
-        Slip { key: HOUSE, mark, account, nonce }
+    /// The slip under a gateway's key whose account, drawer and draw are those
+    /// of its mark.
+    fn honest(key: u16, mark: Mark) -> Self {
+        let Hashed { nonce, account } = mark.hashed;
+        Slip { key, mark, account, nonce }
     }
 }
 
@@ -546,8 +550,8 @@ pub enum Arg {
     GatewaySign,
 }
 
-/// The arguments that codes 1 to 37 take, in order.
-static TAKES: [&[Arg]; 37] = {
+/// The arguments that codes 1 to 38 take, in order.
+static TAKES: [&[Arg]; 38] = {
     use Arg::{
         Account as A, Buyer as B, BuyerSign as P, Code as C, GatewaySign as G, Hashed as H,
         Initiate, Invoice, InvoiceSign as V, Mark as M, Nonce as R, Payment, Request, Seller as S,
@@ -597,10 +601,12 @@ static TAKES: [&[Arg]; 37] = {
         &[S, C, M],
         &[S, B, C, H],
         &[S, C, A, R],
+        // 38 honest, as 3
+        &[B, Initiate, Invoice],
     ]
 };
 
-/// The arguments a code takes; none if it is not 1 to 37.
+/// The arguments a code takes; none if it is not 1 to 38.
 pub fn takes(code: u16) -> Option<&'static [Arg]> {
     TAKES.get(usize::from(code).checked_sub(1)?).copied()
 }
@@ -716,8 +722,13 @@ fn bill(past: &[Words], [seller, initiate, ..]: [u16; 6]) -> Result<Words, Refus
     Ok(Invoice::honest(seller, buyer, mark).words())
 }
 
-/// Code 3: buyer B pays on his own Initiate and the Invoice that answers it.
-fn pay(past: &[Words], [buyer, initiate, invoice, ..]: [u16; 6]) -> Result<Words, Refusal> {
+/// Codes 3 and 38: buyer B pays on his own Initiate and the Invoice that
+/// answers it. The two codes differ in the gateway key of his slip alone.
+fn pay(
+    past: &[Words],
+    key: u16,
+    [buyer, initiate, invoice, ..]: [u16; 6],
+) -> Result<Words, Refusal> {
     let Initiate { head, hashed } = Initiate::read(at(past, initiate));
     let own = head.maker == buyer && head.source == buyer && hashed.account == buyer;
 
@@ -731,8 +742,8 @@ fn pay(past: &[Words], [buyer, initiate, invoice, ..]: [u16; 6]) -> Result<Words
         && signed.signer == seller;
     demand(own && answered, Refusal::Condition)?;
 
-    let slip = Slip::to_house(mark, buyer, hashed.nonce);
-    Ok(Payment::honest(buyer, seller, slip).words())
+    // The mark's account is B's by now, so the slip's is.
+    Ok(Payment::honest(buyer, seller, Slip::honest(key, mark)).words())
 }
 
 /// Code 4: seller S asks the house about a Payment on his own Invoice.
@@ -856,7 +867,8 @@ impl Items {
 
     /// Without e, a slip is built under key 1 from that mark, a and r.
     fn slip(&self) -> Slip {
-        self.slip.unwrap_or_else(|| Slip::to_house(self.mark(), self.account, self.nonce))
+        let Items { account, nonce, .. } = *self;
+        self.slip.unwrap_or_else(|| Slip { key: HOUSE, mark: self.mark(), account, nonce })
     }
 
     fn initiate(&self) -> Words {
@@ -911,14 +923,16 @@ fn made(past: &[Words], answers: u16, step: &[u16; STEP]) -> Result<Words, Refus
     match code {
         1 => Ok(initiate(past, args)),
         2 => bill(past, args),
-        3 => pay(past, args),
+        3 => pay(past, HOUSE, args),
         4 => ask(past, args),
         5 => answer(past, answers, args),
         6..=7 => Ok(items().initiate()),
         8..=13 => Ok(items().invoice()),
         14..=21 => Ok(items().payment()),
         22..=33 => Ok(items().request()),
-        _ => Ok(items().response()),
+        34..=37 => Ok(items().response()),
+        // 38, the last code that the table has
+        _ => pay(past, OUTSIDER, args),
     }
 }
 
@@ -994,7 +1008,7 @@ fn signed_mark(reply: &Words) -> Mark {
 /// every position of each.
 fn session(mark: Mark) -> [Words; 4] {
     let (buyer, seller) = (mark.buyer, mark.seller);
-    let slip = Slip::to_house(mark, mark.hashed.account, mark.hashed.nonce);
+    let slip = Slip::honest(HOUSE, mark);
     let payment = Payment::honest(buyer, seller, slip);
     [
         Initiate::honest(buyer, seller, mark.hashed).words(),

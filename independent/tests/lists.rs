@@ -1,5 +1,6 @@
-//! The lists of the rule paper, its refusals in number order, the messages
-//! that each step adds, and the report. All expected values are the paper's.
+//! The lists of paper 01, those of request 1 of paper 02, the refusals in
+//! number order, the messages that each step adds, and the report. All expected
+//! values follow from the two papers.
 
 use independent::{
     bench, read_text, report, run, step, TextRead, MAX_STEPS, MAX_TEXT, ROOM, STEP, WIDTH,
@@ -103,6 +104,10 @@ const P1: &str = "A 8 / 1 3 2 / 2 2 1 / 3 3 1 2 / 4 2 2 3 / 5 4 / 31 2 2 3 / 5 6
 const P1_PRINTS: &str = "1 0 1 / 2 0 2 / 3 0 3 / 4 0 4 / 5 0 5 / 6 0 6 / 7 6 0 / R 5 2 3 20";
 const SESSION: &str = "1 3 2, 2 2 1, 3 3 1 2, 4 2 2 3, 5 4";
 
+/// The two codes by which a buyer pays, each with the key of the slip. Their
+/// conditions are the same.
+const PAYS: [(u16, u16); 2] = [(3, 1), (38, 0)];
+
 /// The five messages of the session of buyer 3 and seller 2, account 3 good.
 fn session_messages() -> [Vec<u16>; 5] {
     let hashed = [3, 1, 3];
@@ -175,12 +180,17 @@ fn p5_seller_0_forges_his_own_request() {
 
 #[test]
 fn p6_invoice_for_another_buyer() {
-    assert_eq!(numbers("1 3 2, 2 2 1, 1 4 2, 8 4 2 2 2, 3 4 3 4"), [0, 0, 0, 0, 6]);
+    for (code, _) in PAYS {
+        let list = format!("1 3 2, 2 2 1, 1 4 2, 8 4 2 2 2, {code} 4 3 4");
+        assert_eq!(numbers(&list), [0, 0, 0, 0, 6]);
+    }
 }
 
 #[test]
 fn p7_initiate_forged_for_another_buyer() {
-    assert_eq!(numbers("1 3 2, 6 4 2 1, 2 2 2, 3 4 2 3"), [0, 0, 0, 6]);
+    for (code, _) in PAYS {
+        assert_eq!(numbers(&format!("1 3 2, 6 4 2 1, 2 2 2, {code} 4 2 3")), [0, 0, 0, 6]);
+    }
 }
 
 #[test]
@@ -194,7 +204,7 @@ fn p9_ranges() {
     assert_eq!(numbers("1 15 2"), [0]);
     assert_eq!(numbers("1 16 2"), [3]);
     assert_eq!(numbers("1 3 2 7"), [3]);
-    assert_eq!(numbers("0, 38"), [2, 2]);
+    assert_eq!(numbers("0, 39"), [2, 2]);
     assert_eq!(numbers("5 1"), [4]);
 }
 
@@ -210,6 +220,60 @@ fn two_equal_invoices() {
     let (game, numbers) = played("1 3 2, 2 2 1, 2 2 1");
     assert_eq!(numbers, [0; 3]);
     assert_eq!(game.message(2), game.message(3));
+}
+
+// ---------------------------------------------------------------------------
+// Lists with a buyer sent to the false gateway
+// ---------------------------------------------------------------------------
+
+#[test]
+fn step_4_takes_a_slip_under_key_0_and_step_5_does_not() {
+    assert_eq!(numbers("1 3 2, 2 2 1, 38 3 1 2, 4 2 2 3, 5 4"), [0, 0, 0, 0, 6]);
+}
+
+#[test]
+fn outsider_forges_an_initiate_from_a_slip_under_key_0() {
+    let (game, numbers) = played("1 3 2, 2 2 1, 38 3 1 2, 7 2 3 3");
+    assert_eq!(numbers, [0; 4]);
+    assert_eq!(game.message(4), join(&[&[1, 0, 3, 2], &[3, 1, 3]]));
+}
+
+#[test]
+fn outsider_opens_no_slip_under_key_1() {
+    // asked for account and draw, for the draw alone, for the account alone
+    assert_eq!(numbers("1 3 2, 2 2 1, 3 3 1 2, 7 2 3 3"), [0, 0, 0, 5]);
+    assert_eq!(numbers("1 3 2, 2 2 1, 3 3 1 2, 7 2 0 3"), [0, 0, 0, 5]);
+    assert_eq!(numbers("1 0 2, 2 2 1, 3 0 1 2, 7 2 3 1"), [0, 0, 0, 5]);
+}
+
+#[test]
+fn house_refuses_requests_forged_from_a_slip_under_key_0() {
+    // signed by 0, then with signatures over the slip as it was, under key 0
+    let list = "1 3 2, 2 2 1, 38 3 1 2, 4 2 2 3, 33 2 3 3, 5 5, 24 2 3 3 4 3, 5 6";
+    assert_eq!(numbers(list), [0, 0, 0, 0, 0, 6, 0, 6]);
+}
+
+#[test]
+fn house_refuses_seller_0_a_slip_under_another_key_than_the_buyers() {
+    assert_eq!(numbers("1 3 0, 2 0 1, 38 3 1 2, 27 0 3 3 3, 5 4"), [0, 0, 0, 0, 6]);
+}
+
+#[test]
+fn buyer_pays_again_under_key_1() {
+    let (game, numbers) = played("1 3 2, 2 2 1, 38 3 1 2, 3 3 1 2, 4 2 2 4, 5 5");
+    assert_eq!(numbers, [0; 6]);
+    assert_eq!(game.report(6), 20);
+    // and seller 0 forges his own request with what the first slip shows
+    let (game, numbers) = played("1 3 0, 2 0 1, 38 3 1 2, 3 3 1 2, 27 0 3 3 4, 5 5");
+    assert_eq!(numbers, [0; 6]);
+    assert_eq!(game.report(6), 20);
+}
+
+#[test]
+fn outsider_alone_with_a_slip_under_key_0() {
+    let (game, numbers) = played("1 0 0, 2 0 1, 38 0 1 2, 33 0 3 3, 5 4");
+    assert_eq!(numbers, [0; 5]);
+    assert_eq!(game.report(5), 21);
 }
 
 // ---------------------------------------------------------------------------
@@ -296,7 +360,7 @@ fn refused_steps_write_nothing() {
     let (mut game, _) = played(SESSION);
     let before = game.record.clone();
     for s in
-        [&[0][..], &[38], &[65_535], &[1, 16, 2], &[2, 2, 6], &[2, 2, 2], &[2, 3, 1], &[7, 2, 0, 1]]
+        [&[0][..], &[39], &[65_535], &[1, 16, 2], &[2, 2, 6], &[2, 2, 2], &[2, 3, 1], &[7, 2, 0, 1]]
     {
         let (number, place) = game.play(s);
         assert_ne!(number, 0);
@@ -307,21 +371,21 @@ fn refused_steps_write_nothing() {
 
 #[test]
 fn refusal_2_for_codes() {
-    for code in [0, 38, 39, 256, 65_535] {
+    for code in [0, 39, 40, 256, 65_535] {
         assert_eq!(numbers(&format!("{code}")), [2]);
         assert_eq!(numbers(&format!("{code} 99 99 99 99 99 99")), [2]);
     }
 }
 
-/// How many arguments each code takes, from the paper's tables.
-const TAKEN: [usize; 38] = [
+/// How many arguments each code takes, from the papers.
+const TAKEN: [usize; 39] = [
     0, 2, 2, 3, 3, 1, 3, 3, 4, 4, 4, 3, 3, 3, 4, 5, 4, 4, 4, 4, 4, 3, 5, 6, 5, 4, 5, 4, 4, 5, 4, 3,
-    4, 3, 3, 3, 4, 4,
+    4, 3, 3, 3, 4, 4, 3,
 ];
 
 #[test]
 fn refusal_3_for_unused_arguments() {
-    for code in 1..=37 {
+    for code in 1..=38 {
         for unused in TAKEN[usize::from(code)] + 1..STEP {
             let mut s = [0; STEP];
             s[0] = code;
@@ -370,6 +434,20 @@ fn refusal_4_for_places() {
     }
 }
 
+#[test]
+fn refusals_3_and_4_of_a_payment() {
+    let (game, _) = played("1 3 2, 2 2 1");
+    for (code, _) in PAYS {
+        let number = |buyer, initiate, invoice| game.try_step(&[code, buyer, initiate, invoice]);
+        assert_eq!(number(3, 1, 2), 0);
+        assert_eq!([16, 65_535].map(|buyer| number(buyer, 1, 2)), [3; 2]);
+        for place in [0, 3, 513, 65_535] {
+            assert_eq!(number(3, place, 2), 4);
+            assert_eq!(number(3, 1, place), 4);
+        }
+    }
+}
+
 /// Which of the seven messages of the mixed game hold each item.
 fn holders(sort: char) -> &'static [u16] {
     match sort {
@@ -408,8 +486,10 @@ fn refusal_5_for_kinds_of_honest_steps() {
     for place in 1..=5 {
         let wrong = |good: u16| place != good;
         assert_eq!(game.try_step(&[2, 2, place]) == 5, wrong(1));
-        assert_eq!(game.try_step(&[3, 3, place, 2]) == 5, wrong(1));
-        assert_eq!(game.try_step(&[3, 3, 1, place]) == 5, wrong(2));
+        for (code, _) in PAYS {
+            assert_eq!(game.try_step(&[code, 3, place, 2]) == 5, wrong(1));
+            assert_eq!(game.try_step(&[code, 3, 1, place]) == 5, wrong(2));
+        }
         assert_eq!(game.try_step(&[4, 2, place, 3]) == 5, wrong(2));
         assert_eq!(game.try_step(&[4, 2, 2, place]) == 5, wrong(3));
         assert_eq!(game.try_step(&[5, place]) == 5, wrong(4));
@@ -429,14 +509,31 @@ fn first_in_order_wins() {
     assert_eq!(numbers("1 3 2, 8 2 3 1 9"), [0, 4]);
     assert_eq!(numbers("1 3 2, 8 2 3 9 1"), [0, 4]);
     assert_eq!(numbers("1 3 2, 7 2 1 9"), [0, 4]);
-    assert_eq!(numbers("1 3 2, 3 3 2 1"), [0, 4]);
-    // 5 before 6
-    assert_eq!(numbers("1 3 2, 3 4 1 1"), [0, 5]);
-    assert_eq!(numbers("1 3 2, 2 2 1, 3 4 2 2"), [0, 0, 5]);
     // 6 before 7, and each of the others before 7
     let mut game = Game::with_room(1);
-    assert_eq!(play(&mut game, "1 3 2, 2 3 1, 2 2 2, 2 16 1, 38, 8 2 3 1 1"), [0, 6, 4, 3, 2, 5]);
+    assert_eq!(play(&mut game, "1 3 2, 2 3 1, 2 2 2, 2 16 1, 39, 8 2 3 1 1"), [0, 6, 4, 3, 2, 5]);
     assert_eq!(play(&mut game, "1 3 2, 2 2 1, 6 3 2 1"), [7; 3]);
+}
+
+#[test]
+fn first_in_order_wins_for_a_payment() {
+    for (code, _) in PAYS {
+        let number = |args: &str| numbers(&format!("1 3 2, 2 2 1, {code} {args}"))[2];
+        // 3 before 4, wherever the argument stands
+        assert_eq!(number("16 9 9"), 3);
+        assert_eq!(number("3 9 9 1"), 3);
+        // 4 before 5
+        assert_eq!(number("3 9 1"), 4);
+        assert_eq!(number("3 2 9"), 4);
+        // 5 before 6
+        assert_eq!(number("4 1 1"), 5);
+        assert_eq!(number("4 2 2"), 5);
+        // 6 before 7, and each of the others before 7
+        let mut full = Game::with_room(2);
+        let list = "1 3 2, 2 2 1, C 16 1 2, C 3 1 9, C 3 1 1, C 4 1 2, C 3 1 2";
+        let expected = [0, 0, 3, 4, 5, 6, 7];
+        assert_eq!(play(&mut full, &list.replace('C', &code.to_string())), expected);
+    }
 }
 
 #[test]
@@ -478,6 +575,22 @@ fn reply_follows_the_bit_of_the_account() {
     }
 }
 
+#[test]
+fn step_38_adds_a_payment_under_key_0() {
+    let (game, numbers) = played("1 3 2, 2 2 1, 38 3 1 2");
+    assert_eq!(numbers, [0; 3]);
+    // kind 3 from 3 to 2; slip; signer, signed slip, signed mark; unused
+    let payment = [
+        3, 3, 3, 2, 0, 2, 3, 3, 1, 3, 3, 3, 1, 3, 0, 2, 3, 3, 1, 3, 3, 3, 1, 2, 3, 3, 1, 3, 0, 0,
+        0, 0, 0, 0, 0, 0, 0, 0, 0, 0, 0, 0, 0, 0, 0, 0, 0, 0,
+    ];
+    assert_eq!(game.message(3), payment);
+    // Step 3 adds the same but for the two keys.
+    let [_, _, paid, ..] = session_messages();
+    let differs = |&position: &usize| payment[position] != paid[position];
+    assert_eq!((0..WIDTH).filter(differs).collect::<Vec<_>>(), [4, 14]);
+}
+
 /// The positions of the message at a place on which a step's condition turns:
 /// those where some other lawful number makes the step refused with 6.
 fn positions_that_matter(s: &[u16], place: usize) -> Vec<usize> {
@@ -501,16 +614,18 @@ fn refusal_6_in_step_2() {
 }
 
 #[test]
-fn refusal_6_in_step_3() {
+fn refusal_6_in_steps_3_and_38() {
     // all of the Initiate; all of the Invoice but its maker
-    let s = [3, 3, 1, 2];
-    assert_eq!(positions_that_matter(&s, 1), (1..=6).collect::<Vec<_>>());
-    assert_eq!(positions_that_matter(&s, 2), (2..=14).collect::<Vec<_>>());
-    assert_eq!(numbers("1 3 2, 2 2 1, 3 4 1 2"), [0, 0, 6]);
+    for (code, _) in PAYS {
+        let s = [code, 3, 1, 2];
+        assert_eq!(positions_that_matter(&s, 1), (1..=6).collect::<Vec<_>>());
+        assert_eq!(positions_that_matter(&s, 2), (2..=14).collect::<Vec<_>>());
+        assert_eq!(numbers(&format!("1 3 2, 2 2 1, {code} 4 1 2")), [0, 0, 6]);
+    }
 }
 
 #[test]
-fn step_3_asks_for_account_b_and_not_for_drawer_b() {
+fn steps_3_and_38_ask_for_account_b_and_not_for_drawer_b() {
     // drawer 0 in both messages: accepted; account 5 in both: refused
     let [initiate, invoice, ..] = session_messages();
     let both = |position: usize, value: u16| {
@@ -520,12 +635,14 @@ fn step_3_asks_for_account_b_and_not_for_drawer_b() {
         game.set(2, 12 + position, value);
         game
     };
-    let mut game = both(0, 0);
-    assert_eq!(game.play(&[3, 3, 1, 2]), (0, 3));
-    let slip = [1, 2, 3, 0, 1, 3, 3, 0, 1];
-    let mark = [2, 3, 0, 1, 3];
-    assert_eq!(game.message(3), join(&[&[3, 3, 3, 2], &slip, &[3], &slip, &mark]));
-    assert_eq!(both(2, 5).try_step(&[3, 3, 1, 2]), 6);
+    for (code, key) in PAYS {
+        let mut game = both(0, 0);
+        assert_eq!(game.play(&[code, 3, 1, 2]), (0, 3));
+        let slip = [key, 2, 3, 0, 1, 3, 3, 0, 1];
+        let mark = [2, 3, 0, 1, 3];
+        assert_eq!(game.message(3), join(&[&[3, 3, 3, 2], &slip, &[3], &slip, &mark]));
+        assert_eq!(both(2, 5).try_step(&[code, 3, 1, 2]), 6);
+    }
 }
 
 #[test]
@@ -568,8 +685,10 @@ fn step_4_does_not_open_the_slip() {
 fn step_4_trusts_no_invoice_by_its_source() {
     // the same Invoice made by the outsider
     assert_eq!(numbers("1 3 2, 2 2 1, 3 3 1 2, 8 2 3 2 2, 4 2 4 3"), [0, 0, 0, 0, 6]);
-    // step 3 takes it all the same
-    assert_eq!(numbers("1 3 2, 2 2 1, 8 2 3 2 2, 3 3 1 3"), [0; 4]);
+    // steps 3 and 38 take it all the same
+    for (code, _) in PAYS {
+        assert_eq!(numbers(&format!("1 3 2, 2 2 1, 8 2 3 2 2, {code} 3 1 3")), [0; 4]);
+    }
 }
 
 #[test]
@@ -1155,7 +1274,7 @@ fn a_run_agrees_with_its_steps_one_by_one() {
         }
         assert_eq!((game.n, &game.record), (usize::from(n), &record));
     }
-    assert_eq!(accepted, (1..=37).collect());
+    assert_eq!(accepted, (1..=38).collect());
 }
 
 #[test]

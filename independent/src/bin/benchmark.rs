@@ -205,7 +205,7 @@ fn refused_list() -> Vec<Step> {
         steps.push(loop {
             let mut s = steps[dice.below(few)];
             for _ in 0..2 {
-                s[dice.below(STEP)] = dice.pick(&[0, 1, 2, 3, 5, 8, 15, 16, 37, 38, n as u16 + 1]);
+                s[dice.below(STEP)] = dice.pick(&[0, 1, 2, 3, 5, 8, 15, 16, 38, 39, n as u16 + 1]);
             }
             if step(&mut record[..n * WIDTH], n, ANSWERS, s).0 == wanted {
                 break s;

@@ -5,10 +5,10 @@
 //! returned and every number of every lent table must be the same, and the
 //! guards before and behind the tables too.
 //!
-//! `compare [SEED]` counts and prints what was seen; each code accepted, each
-//! refusal, each report and each kind of text must be seen often enough. On a
-//! difference it prints the input and both answers and stops with exit status
-//! 1.
+//! `compare [SEED]` counts and prints what was seen; each code accepted, also
+//! with items out of slips under key 0, each refusal, each report and each kind
+//! of text must be seen often enough. On a difference it prints the input and
+//! both answers and stops with exit status 1.
 
 #[path = "../compare/mod.rs"]
 mod compare;

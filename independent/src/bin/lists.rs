@@ -1,6 +1,7 @@
 //! Writes pseudo-random step lists that really play, in step text, for later
-//! comparison: honest sessions mixed with forged steps of every code, among
-//! them copies of honest messages that differ in one thing.
+//! comparison: honest sessions, some with a buyer sent to the false gateway,
+//! mixed with forged steps of every code, among them copies of honest messages
+//! that differ in one thing.
 //!
 //! `lists SEED COUNT DIR [SPOILED]` writes COUNT lists to the directory DIR,
 //! and after them SPOILED texts in which one byte was changed. It prints how
@@ -28,8 +29,8 @@ const LONG_EVERY: usize = 40;
 
 /// What became of all the steps.
 struct Tally {
-    tried: [usize; 38],
-    accepted: [usize; 38],
+    tried: [usize; 39],
+    accepted: [usize; 39],
     numbers: [usize; 8],
     reports: [usize; 3],
     lists: usize,
@@ -40,8 +41,8 @@ struct Tally {
 impl Tally {
     fn new() -> Self {
         Tally {
-            tried: [0; 38],
-            accepted: [0; 38],
+            tried: [0; 39],
+            accepted: [0; 39],
             numbers: [0; 8],
             reports: [0; 3],
             lists: 0,
@@ -52,7 +53,7 @@ impl Tally {
 
     /// Codes out of range are counted at 0.
     fn count(&mut self, code: u16, number: u8) {
-        let code = if code <= 37 { usize::from(code) } else { 0 };
+        let code = if code <= 38 { usize::from(code) } else { 0 };
         self.tried[code] += 1;
         self.accepted[code] += usize::from(number == 0);
         self.numbers[usize::from(number)] += 1;
@@ -74,7 +75,7 @@ impl Tally {
     fn print(&self) {
         println!("lists\t{}", self.lists);
         println!("code\ttried\taccepted");
-        for code in 1..=37 {
+        for code in 1..=38 {
             println!("{code}\t{}\t{}", self.tried[code], self.accepted[code]);
         }
         println!("other\t{}\t{}", self.tried[0], self.accepted[0]);

@@ -95,7 +95,7 @@ impl Bench {
             let tables = first_difference("record", &self.engine, &self.own);
             self.stop(&input, &format!("{engine:?}"), &format!("{own:?}"), &[tables]);
         }
-        self.counts.step(table, n, s, number);
+        self.counts.step(table, n, &s, number);
         (number, place)
     }
 
@@ -136,7 +136,7 @@ impl Bench {
             ];
             self.stop(&input, &format!("{engine:?}"), &format!("{own:?}"), &tables);
         }
-        self.counts.run(list.inside(), number, own_verdicts.inside());
+        self.counts.run(self.own.messages(n.into()), list.inside(), number, own_verdicts.inside());
         (number, n)
     }
 

@@ -61,7 +61,9 @@ fn play_mixture(bench: &mut Bench, dice: &mut Dice, room: usize, answers: u16, l
     let mut table = bench.own.clone();
     for &s in alone.as_chunks::<STEP>().0 {
         let now = if dice.chance(50) { answers } else { dice.next() as u16 };
-        if bench.step(&table, n, now, s).0 == 0 {
+        let (number, _) = bench.step(&table, n, now, s);
+        bench.counts.reach(table.messages(n), &s, number);
+        if number == 0 {
             table.copy_from(&bench.own);
             n += 1;
         }

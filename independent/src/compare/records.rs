@@ -5,7 +5,7 @@ use super::calls::Bench;
 use super::lent::Lent;
 use super::lists::reports_on;
 use crate::dice::Dice;
-use crate::records::{Few, Session};
+use crate::records::{Few, Session, HONEST};
 use independent::{ROOM, STEP, WIDTH};
 
 /// Steps and reports on lawful messages of all kinds, and then on the same
@@ -134,7 +134,7 @@ fn each_number(
             for number in [lawful, old ^ 1, old.wrapping_add(1), old.wrapping_sub(1), any] {
                 let mut changed = table.clone();
                 changed.inside_mut()[at] = number;
-                for code in naming(kind) {
+                for &code in naming(kind) {
                     let s = session.step(code, [places[0], places[1], places[2], places[3]]);
                     bench.step(&changed, n, 0x5555, s);
                 }
@@ -145,16 +145,16 @@ fn each_number(
 }
 
 /// The honest codes that name a message of this kind.
-fn naming(kind: u16) -> std::ops::RangeInclusive<u16> {
+fn naming(kind: u16) -> &'static [u16] {
     match kind {
-        1 => 2..=3,
-        2 => 3..=4,
-        3 => 4..=4,
-        _ => 5..=5,
+        1 => &[2, 3, 38],
+        2 => &[3, 38, 4],
+        3 => &[4],
+        _ => &[5],
     }
 }
 
-/// The five honest steps, with one argument changed too, and the report.
+/// The six honest steps, with one argument changed too, and the report.
 fn honest_steps(
     bench: &mut Bench,
     dice: &mut Dice,
@@ -164,7 +164,7 @@ fn honest_steps(
     [i, v, p, q, reply]: [u16; 5],
 ) {
     let answers = dice.next() as u16;
-    for code in 1..=5 {
+    for code in HONEST {
         let s = session.step(code, [i, v, p, q]);
         bench.step(table, n, answers, s);
         for argument in 1..STEP {

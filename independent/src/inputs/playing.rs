@@ -1,6 +1,7 @@
-//! Pseudo-random step lists that really play: honest sessions mixed with
-//! forged steps of every code, among them copies of honest messages that
-//! differ in one thing, and steps with faults.
+//! Pseudo-random step lists that really play: honest sessions, some with a
+//! buyer sent to the false gateway, mixed with forged steps of every code,
+//! among them copies of honest messages that differ in one thing, and steps
+//! with faults.
 
 use crate::dice::Dice;
 use independent::{step, takes, Arg, Words, STEP, WIDTH};
@@ -10,10 +11,11 @@ const LONGEST_LINE: usize = 42;
 /// The most steps that are played in one go.
 const LONGEST_SCRIPT: usize = 10;
 
-/// Short lists to play among the others: some of the paper's, and some in
-/// which one condition of an honest step fails and no other. Here b and s
-/// stand for parties, and .3 for the message that the third step added.
-const SCRIPTS: [&str; 17] = [
+/// Short lists to play among the others: some of the paper's, some in which
+/// one condition of an honest step fails and no other, and some that forge with
+/// what a slip under key 0 shows. Here b and s stand for parties, and .3 for
+/// the message that the third step added.
+const SCRIPTS: [&str; 31] = [
     "1 0 s, 2 s .1, 3 0 .1 .2, 4 s .2 .3, 5 .4",
     "1 0 s, 2 s .1, 33 s 0 .1, 5 .3",
     "1 0 0, 2 0 .1, 33 0 0 .1, 5 .3",
@@ -37,6 +39,27 @@ const SCRIPTS: [&str; 17] = [
     "1 0 s, 2 s .1, 3 0 .1 .2, 4 s .2 .3, 1 0 s, 2 s .5, 3 0 .5 .6, 17 0 s .7 .2, \
      22 s .2 .3 .4 .8, 5 .9",
     "1 0 s, 2 s .1, 3 0 .1 .2, 4 s .2 .3, 1 0 s, 2 s .5, 17 0 s .3 .6, 22 s .2 .3 .4 .7, 5 .8",
+    // a slip under key 0: refused by the house, then paid again under key 1
+    "1 b s, 2 s .1, 38 b .1 .2, 4 s .2 .3, 5 .4",
+    "1 b s, 2 s .1, 38 b .1 .2, 3 b .1 .2, 4 s .2 .4, 5 .5",
+    // account and draw out of such a slip, for an Initiate and for Invoices
+    "1 b s, 2 s .1, 38 b .1 .2, 7 s .3 .3, 2 s .4, 3 b .1 .5, 38 b .4 .5",
+    "1 b s, 2 s .1, 38 b .1 .2, 10 s .3 .3 .2, 38 b .1 .4, 13 s .3 .3, 3 b .1 .6",
+    // for Payments: signed under the other key, under the same, and by buyer 0
+    "1 b s, 2 s .1, 38 b .1 .2, 15 s .3 .3 .2 .3, 4 s .2 .4, 16 s .3 .3 .3, 4 s .2 .6",
+    "1 b s, 2 s .1, 38 b .1 .2, 3 b .1 .2, 15 s .3 .3 .2 .4, 4 s .2 .5, 5 .6",
+    "1 b s, 2 s .1, 38 b .1 .2, 3 b .1 .2, 16 s .3 .3 .4, 4 s .2 .5, 5 .6",
+    "1 0 s, 2 s .1, 38 0 .1 .2, 19 s .3 .3 .3, 20 s .3 .3 .2, 4 s .2 .5, 21 s .3 .3, 4 s .2 .7, \
+     5 .6, 5 .8",
+    // for requests: signed under the other key or by 0, and under the same
+    "1 b s, 2 s .1, 38 b .1 .2, 4 s .2 .3, 24 s .3 .3 .4 .3, 5 .5, 30 s .3 .3 .4, 5 .7, \
+     33 s .3 .3, 5 .9",
+    "1 b s, 2 s .1, 38 b .1 .2, 3 b .1 .2, 4 s .2 .4, 24 s .3 .3 .5 .4, 5 .6",
+    "1 b 0, 2 0 .1, 38 b .1 .2, 27 0 .3 .3 .3, 5 .4",
+    "1 b 0, 2 0 .1, 38 b .1 .2, 3 b .1 .2, 27 0 .3 .3 .4, 5 .5",
+    "1 0 0, 2 0 .1, 38 0 .1 .2, 33 0 .3 .3, 5 .4",
+    // for replies
+    "1 b s, 2 s .1, 38 b .1 .2, 37 s 1 .3 .3, 34 s 2 .4",
 ];
 
 /// A buyer and a seller on their way through the five kinds of message. Any
@@ -115,8 +138,8 @@ impl<'a> List<'a> {
         match self.dice.below(100) {
             0..34 => self.advance(),
             34..50 => self.twist(),
-            50..53 => self.script(),
-            53..82 => {
+            50..55 => self.script(),
+            55..82 => {
                 let s = self.forged();
                 self.play(s);
             }
@@ -155,18 +178,22 @@ impl<'a> List<'a> {
 
     // -- sessions -----------------------------------------------------------
 
-    /// Takes one session on by a message, honest or forged.
+    /// Takes one session on by a message, honest or forged. A buyer who was
+    /// sent to the false gateway may pay again under key 1; both Payments stand.
     fn advance(&mut self) {
         let i = self.open_session();
         let session = self.sessions[i].clone();
         let kind = session.places.len() + 1;
         let s = if self.dice.chance(70) {
-            honest(&session, kind)
+            self.misled(honest(&session, kind))
         } else {
             let code = self.forged_code(kind);
             self.arguments(code, Some(&session))
         };
-        let (number, place) = self.play(s);
+        let (mut number, mut place) = self.play(s);
+        if s[0] == 38 && number == 0 && self.dice.chance(40) {
+            (number, place) = self.play(honest(&session, 3));
+        }
         if number == 0 {
             self.sessions[i].places.push(place);
         }
@@ -174,6 +201,15 @@ impl<'a> List<'a> {
             let over = self.sessions.swap_remove(i);
             self.closed.push(over);
         }
+    }
+
+    /// The step as it is, but one buyer in five who pays has been given the
+    /// false gateway's key: he takes step 38 instead of 3.
+    fn misled(&mut self, mut s: [u16; STEP]) -> [u16; STEP] {
+        if s[0] == 3 && self.dice.chance(20) {
+            s[0] = 38;
+        }
+        s
     }
 
     /// One of at most four sessions under way.
@@ -286,7 +322,8 @@ impl<'a> List<'a> {
     fn go_on_from(&mut self, mut session: Session, kind: usize) {
         let later = kind < 3 && session.places.len() > kind && self.dice.chance(50);
         let code = kind + 1 + usize::from(later);
-        let (number, place) = self.play(honest(&session, code));
+        let s = self.misled(honest(&session, code));
+        let (number, place) = self.play(s);
         if number == 0 {
             session.places.truncate(code - 1);
             session.places.push(place);
@@ -296,13 +333,14 @@ impl<'a> List<'a> {
 
     // -- scripts ------------------------------------------------------------
 
-    /// Plays a script for two parties, now and then with a fault in a step.
+    /// Plays a script for two parties, now and then with a fault in a step or
+    /// with a buyer sent to the false gateway.
     fn script(&mut self) {
         let script = self.dice.pick(&SCRIPTS);
         let parties = (self.dice.pick(&self.buyers), self.dice.pick(&self.sellers));
         let mut places = Vec::new();
         for line in script.split(", ") {
-            let mut s = scripted(line, parties, &places);
+            let mut s = self.misled(scripted(line, parties, &places));
             if self.dice.chance(4) {
                 let i = 1 + self.dice.below(6);
                 s[i] = self.fault(s[0], i);
@@ -335,10 +373,10 @@ impl<'a> List<'a> {
     /// An honest step on any messages of the right kinds, mostly in the name
     /// of the party that they concern.
     fn odd_honest(&mut self) -> [u16; STEP] {
-        let code = self.dice.between(2, 5);
+        let code = self.dice.pick(&[2, 3, 4, 5, 38]);
         let mut s = self.arguments(code, None);
         let in_record = (1..=self.n).contains(&usize::from(s[2]));
-        if code < 5 && in_record && self.dice.chance(80) {
+        if code != 5 && in_record && self.dice.chance(80) {
             let position = if code == 2 { 3 } else { 2 };
             s[1] = self.message(s[2])[position] % 16;
         }
@@ -361,7 +399,7 @@ impl<'a> List<'a> {
         let any = self.dice.between(1, self.n as u16);
         let arg = takes(code).and_then(|args| args.get(position.checked_sub(1)?));
         match arg {
-            _ if position == 0 => self.dice.pick(&[0, 38, 39, 255, 256, 65_535]),
+            _ if position == 0 => self.dice.pick(&[0, 39, 40, 255, 256, 65_535]),
             Some(Arg::Buyer | Arg::Seller) => self.dice.pick(&[16, 17, 255, 256, 65_535]),
             Some(Arg::Code) => self.dice.pick(&[0, 3, 16, 257, 65_535]),
             Some(_) => self.dice.pick(&[0, after, 512, 513, 65_535, any, any, any]),
@@ -372,12 +410,16 @@ impl<'a> List<'a> {
     // -- arguments ----------------------------------------------------------
 
     /// A step of this code, with the session's parties and messages if there
-    /// is one and they will do.
+    /// is one and they will do. Item r stands right behind item a, and where a
+    /// is out of a slip, r is mostly out of the same.
     fn arguments(&mut self, code: u16, session: Option<&Session>) -> [u16; STEP] {
         let mut s = [0; STEP];
         s[0] = code;
         for (i, &arg) in takes(code).unwrap_or_default().iter().enumerate() {
-            s[i + 1] = self.argument(arg, session);
+            s[i + 1] = match arg {
+                Arg::Nonce if s[i] != 0 && self.dice.chance(60) => s[i],
+                _ => self.argument(arg, session),
+            };
         }
         s
     }
@@ -390,9 +432,16 @@ impl<'a> List<'a> {
             (Arg::Buyer, None) => self.dice.pick(&self.buyers),
             (Arg::Seller, None) => self.dice.pick(&self.sellers),
             (Arg::Code, _) => self.dice.between(1, 2),
-            (Arg::Account, _) if self.dice.chance(97) => 0,
+            (Arg::Account, _) if self.takes_own_account() => 0,
             _ => self.place(arg, session),
         }
+    }
+
+    /// Whether item a is the outsider's own account, as it nearly always must
+    /// be while no slip shows him another.
+    fn takes_own_account(&mut self) -> bool {
+        let shown = !self.holders(Arg::Account).is_empty();
+        self.dice.chance(if shown { 40 } else { 97 })
     }
 
     /// A place: mostly one that holds the item, of the session if it can be.

@@ -50,6 +50,9 @@ fn join(parts: &[&[u16]]) -> Words {
     w
 }
 
+/// The codes of the honest steps.
+pub const HONEST: [u16; 6] = [1, 2, 3, 4, 5, 38];
+
 /// A session as 9 numbers: the mark, then the rest of the slip. In an honest
 /// one the slip's account, drawer and draw are the mark's.
 #[derive(Clone, Copy)]
@@ -83,7 +86,7 @@ impl Session {
         match code {
             1 => [1, b, s, 0, 0, 0, 0],
             2 => [2, s, i, 0, 0, 0, 0],
-            3 => [3, b, i, v, 0, 0, 0],
+            3 | 38 => [code, b, i, v, 0, 0, 0],
             4 => [4, s, v, p, 0, 0, 0],
             _ => [5, q, 0, 0, 0, 0, 0],
         }
@@ -174,7 +177,7 @@ impl Few {
     /// A step of any code on a record, mostly on messages that will do.
     pub fn step(&self, dice: &mut Dice, record: &[Words]) -> [u16; STEP] {
         let mut s = [0; STEP];
-        s[0] = dice.between(1, 37);
+        s[0] = dice.between(1, 38);
         for (i, &arg) in takes(s[0]).unwrap_or_default().iter().enumerate() {
             s[i + 1] = match arg {
                 Arg::Buyer | Arg::Seller => self.party(dice),
@@ -189,7 +192,7 @@ impl Few {
         if dice.chance(12) {
             let i = if dice.chance(20) { 0 } else { 1 + dice.below(STEP - 1) };
             let after = record.len() as u16 + 1;
-            s[i] = dice.pick(&[0, 1, 2, 3, 15, 16, 37, 38, 512, 513, 65_535, after, after - 1]);
+            s[i] = dice.pick(&[0, 1, 2, 3, 15, 16, 38, 39, 512, 513, 65_535, after, after - 1]);
         }
         s
     }
@@ -197,7 +200,7 @@ impl Few {
     /// In an honest step, the party whom the first message named concerns.
     fn put_right(&self, s: &mut [u16; STEP], record: &[Words]) {
         let position = if s[0] == 2 { 3 } else { 2 };
-        if let (2..=4, Some(w)) = (s[0], record.get(usize::from(s[2]).wrapping_sub(1))) {
+        if let (2..=4 | 38, Some(w)) = (s[0], record.get(usize::from(s[2]).wrapping_sub(1))) {
             s[1] = w[position];
         }
     }
