@@ -1,6 +1,6 @@
 // The header from C++: every entry is called, every constant is held to the library, which takes what it allows and refuses one more, and each
-// message of a session is held to the positions of document 01. A second session goes on from a run, with other account answers. Its last line
-// is `N differences`; any one makes the status 1.
+// message of a session is held to the positions of document 01. A second session goes on from a run, with other account answers, and in a third
+// the buyer pays with step 38 of 02. Its last line is `N differences`; any one makes the status 1.
 #include "kp_bench.h"
 
 #include <cstdio>
@@ -9,7 +9,7 @@
 
 static int differences = 0;
 
-// what a call answered, beside what document 01 says
+// what a call answered, beside what documents 01 and 02 say
 static void same(const char *what, unsigned answered, unsigned wanted)
 {
     if (answered != wanted) {
@@ -129,12 +129,10 @@ static void answers_of_each_call()
     same("the report on the second", kp_report(record.data(), record.size(), n, 10), 20);
 }
 
-// Buyer 3 pays with step 38: his Payment has the slip under key 0 in both places, the seller asks with it, and the house refuses. The code
-// after the greatest is no step.
+// Buyer 3 pays with step 38: his Payment has the slip under key 0 in both places, the seller asks with it, and the house refuses.
 static void paid_under_key_0()
 {
-    const unsigned steps[][5] = {{1, 3, 2, 0, 0}, {2, 2, 1, 0, 0}, {KP_CODE_MAX, 3, 1, 2, 0}, {4, 2, 2, 3, 0}, {5, 4, 0, 0, 6},
-                                 {KP_CODE_MAX + 1, 3, 1, 2, 2}};
+    const unsigned steps[][5] = {{1, 3, 2, 0, 0}, {2, 2, 1, 0, 0}, {38, 3, 1, 2, 0}, {4, 2, 2, 3, 0}, {5, 4, 0, 0, 6}};
     std::vector<uint16_t> record(KP_RECORD_LEN_MAX);
     uint16_t n = 0;
     for (const auto &s : steps) {
@@ -146,10 +144,20 @@ static void paid_under_key_0()
     message(record, 3, {3, 3, 3, 2, /**/ 0, 2, 3, 3, 1, 3, 3, 3, 1, /**/ 3, /**/ 0, 2, 3, 3, 1, 3, 3, 3, 1, /**/ 2, 3, 3, 1, 3});
 }
 
+// the greatest code is a step, here one that names no message; the next is none
+static void limit_of_a_code()
+{
+    std::vector<uint16_t> record(KP_MESSAGE_LEN);
+    uint16_t place = 0;
+    same("the greatest code", kp_step(record.data(), record.size(), 0, 8, KP_CODE_MAX, 0, 0, 0, 0, 0, 0, &place), 4);
+    same("one more", kp_step(record.data(), record.size(), 0, 8, KP_CODE_MAX + 1, 0, 0, 0, 0, 0, 0, &place), 2);
+}
+
 int main()
 {
     limits_of_a_run();
     limits_of_a_text();
+    limit_of_a_code();
     step_and_report();
     answers_of_each_call();
     paid_under_key_0();

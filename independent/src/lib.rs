@@ -931,8 +931,9 @@ fn made(past: &[Words], answers: u16, step: &[u16; STEP]) -> Result<Words, Refus
         14..=21 => Ok(items().payment()),
         22..=33 => Ok(items().request()),
         34..=37 => Ok(items().response()),
-        // 38, the last code that the table has
-        _ => pay(past, OUTSIDER, args),
+        38 => pay(past, OUTSIDER, args),
+        // no code without an arm has a row
+        _ => Err(Refusal::StepCode),
     }
 }
 

@@ -10,6 +10,7 @@ use messages::layout::PAYMENT_SIGNED;
 use messages::layout::REQUEST_BUYER_SIGNED;
 use messages::layout::REQUEST_SLIP;
 use messages::parts::Drawn;
+use messages::parts::FALSE_GATEWAY;
 use messages::parts::Slip;
 use messages::parts::drawn_at;
 use messages::parts::slip_at;
@@ -94,7 +95,7 @@ fn is_readable(m: &[u16]) -> bool
         return false;
     }
     let slip = slip_in(m);
-    slip.key.0 == 0
+    slip.key.0 == FALSE_GATEWAY
 }
 
 // An Initiate whose draw is the outsider's own.

@@ -80,17 +80,18 @@ rows =
     ∷ row (forges AuthResponse) (S ∷ c ∷ at m ∷ [])
     ∷ row (forges AuthResponse) (S ∷ B ∷ c ∷ at h ∷ [])
     ∷ row (forges AuthResponse) (S ∷ c ∷ a ∷ at r ∷ [])
-    -- 38: as 3, for a buyer who was sent to the false gateway
+    -- 38, for a buyer who was sent to the false gateway: as step 3, but the slip is under key 0
     ∷ row (pays falseGateway) (B ∷ the Initiate ∷ the Invoice ∷ [])
     ∷ []
 
--- the row of a code; codes count from 1, and there are as many as rows
+-- codes count from 1, and there are as many as rows
 abbrev pub mostCode : ℕ
 mostCode = length rows
 
 abbrev pub known : ℕ → Bool
 known code = leb 1 code && leb code mostCode
 
+-- the row of a code
 abbrev pub rowOf : ℕ → Row
 rowOf code = getD rows (code - 1) (row starts [])
 

@@ -35,6 +35,7 @@ use Rattle.messages.specs.declared.signed.InvoiceSigned.{InvoiceSigned}
 use Rattle.messages.specs.declared.signed.ReplySigned.{ReplySigned}
 use Rattle.messages.specs.declared.signed.RequestSigned.{RequestSigned}
 use Rattle.rules.specs.Codes.{Argument, Item}
+use Rattle.rules.specs.Honest.{falseGateway}
 
 abbrev pub isKind : Kind → Message → Bool
 isKind k x = eqb (kindOf x) (kindNumber k)
@@ -47,7 +48,7 @@ abbrev pub slipIn : Message → Slip
 slipIn x = cond (isKind Payment x) (slipAt x body) (slipAt x requestSlip)
 
 abbrev pub readable : Message → Bool
-readable x = hasSlip x && eqb (slipIn x .key .0) 0
+readable x = hasSlip x && eqb (slipIn x .key .0) (falseGateway .0)
 
 -- which messages yield an item
 abbrev pub yields : Item → Message → Bool

@@ -1,1 +1,1 @@
-// This crate has no code. specs/ has the rules of document 01 as definitions, and proofs/ what follows from them.
+// This crate has no code. specs/ has the rules of documents 01 and 02 as definitions, and proofs/ what follows from them.
