@@ -93,7 +93,10 @@ trials =
     -- 38 in place of 3: the house cannot read the slip
     ∷ trial 512 (three 1 3 2 ∷ three 2 2 1 ∷ four 38 3 1 2 ∷ four 4 2 2 3 ∷ two 5 4 ∷ [])
     (three 1 0 1 ∷ three 2 0 2 ∷ three 3 0 3 ∷ three 4 0 4 ∷ three 5 6 0 ∷ []) []
-    -- a forged Initiate, made from the account and the draw in that slip
+    -- P7 with 38 in place of 3: the condition is the same
+    ∷ trial 512 (three 1 3 2 ∷ four 6 4 2 1 ∷ three 2 2 2 ∷ four 38 4 2 3 ∷ [])
+    (three 1 0 1 ∷ three 2 0 2 ∷ three 3 0 3 ∷ three 4 6 0 ∷ []) []
+    -- a forged Initiate, made from the account and the draw in the slip of 38
     ∷ trial 512 (three 1 3 2 ∷ three 2 2 1 ∷ four 38 3 1 2 ∷ four 7 2 3 3 ∷ [])
     (three 1 0 1 ∷ three 2 0 2 ∷ three 3 0 3 ∷ three 4 0 4 ∷ []) []
     -- the same after step 3: nothing can be read
