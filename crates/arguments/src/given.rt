@@ -7,7 +7,7 @@ ghost use Rattle.rules.specs.Step.{arguments_of, code_of};
 
 use crate::codes::MOST_ARGUMENTS;
 
-#[derive(Drop)]
+#[derive(Clone, Copy)]
 pub enum Given {
     At(u16),
     Nothing,

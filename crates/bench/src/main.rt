@@ -1,4 +1,6 @@
 // The bench: step text from standard input, its results on standard output.
+#![tactic(auto)]
+
 use results::play::{MOST_PRINTED, play_text};
 
 fn main() {

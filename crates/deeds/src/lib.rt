@@ -1,4 +1,6 @@
 // The deed of a step, by its code: whether its condition holds, and the message that it adds.
+#![tactic(auto)]
+
 ghost use Rattle.std.specs.Prelude.{◌≡◌, ℕ, ◌*◌, ◌<◌, ◌≤◌, length};
 ghost use Rattle.arguments.specs.Ready.{Ready, ReadyStep};
 ghost use Rattle.messages.specs.Layout.{message_width};

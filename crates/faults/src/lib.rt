@@ -1,5 +1,7 @@
 // Refusals 3, 4 and 5: the first that an argument of a step gives. All ranges come before any place, and all places before any item,
 // whatever the argument's position, so of the numbers that the arguments give the lowest is the step's.
+#![tactic(auto)]
+
 ghost use Rattle.std.specs.Prelude.{◌≡◌, ◌*◌, ◌≤◌, drop, length};
 ghost use Rattle.messages.specs.Layout.{message_width};
 ghost use Rattle.messages.specs.Tests.{all};

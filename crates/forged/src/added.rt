@@ -17,7 +17,7 @@ use messages::parts::{
 use messages::signed::{BuyerSigned, InvoiceSigned, ReplySigned, RequestSigned};
 
 // What every kind is made from.
-#[derive(Drop)]
+#[derive(Clone, Copy)]
 pub struct Gathered {
     pub seller: Seller,
     pub account: Account,

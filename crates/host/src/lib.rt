@@ -1,5 +1,7 @@
 // What hosts in C call, on numbers and lent tables: thin, each with the promise of the operation behind it. host/kp_bench.h says in
 // words what the arguments are.
+#![tactic(auto)]
+
 ghost use Rattle.std.specs.Prelude.{[], ◌∷◌, ◌≡◌, length};
 ghost use Rattle.host.specs.Entries.{Ran as RanBy, Read, Stepped};
 ghost use Rattle.rules.specs.Report.{report as report_of};

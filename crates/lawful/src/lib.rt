@@ -1,4 +1,6 @@
 // Which messages are lawful.
+#![tactic(auto)]
+
 ghost use Rattle.std.specs.Prelude.{◌≡◌, [], ◌<◌, get_or, length};
 ghost use Rattle.lawful.specs.Lawful.{fits, kind_ranges, lawful, range_lettered, span_of};
 ghost use Rattle.lawful.specs.Lent.{least_numbers, most_numbers, positions};
@@ -19,7 +21,7 @@ KSSGSBBDAGSBBDAABDSSBBDAGSBBDAABDBGSBBDAABDSBBDA\
 KGGSCGCSBBDA------------------------------------";
 
 // The least and the most number of a range.
-#[derive(Drop)]
+#[derive(Clone, Copy)]
 struct Span(u16, u16);
 
 fn span_of(range: u8) -> Span

@@ -12,7 +12,7 @@ use messages::parts::{Mark, Place};
 use record::table::message;
 
 // Which of the four stand.
-#[derive(Drop)]
+#[derive(Clone, Copy)]
 pub struct Seen {
     pub initiated: bool,
     pub invoiced: bool,
@@ -21,7 +21,7 @@ pub struct Seen {
 }
 
 // If a message is not lawful the look ends there, and what it has seen says nothing.
-#[derive(Drop)]
+#[derive(Clone, Copy)]
 pub struct Found {
     pub lawful: bool,
     pub seen: Seen,

@@ -25,19 +25,19 @@ pub const MARK_WIDTH: usize = 2 + HASHED_WIDTH;
 pub const SLIP_WIDTH: usize = 1 + MARK_WIDTH + 1 + DRAWN_WIDTH;
 
 // Buyer 3, seller 3, account 3 and place 3 are four different things.
-#[derive(Drop)]
+#[derive(Clone, Copy)]
 pub struct Buyer(pub u16);
 
-#[derive(Drop)]
+#[derive(Clone, Copy)]
 pub struct Seller(pub u16);
 
-#[derive(Drop)]
+#[derive(Clone, Copy)]
 pub struct Gateway(pub u16);
 
-#[derive(Drop)]
+#[derive(Clone, Copy)]
 pub struct Account(pub u16);
 
-#[derive(Drop)]
+#[derive(Clone, Copy)]
 pub struct Place(pub usize);
 
 // Gateway 1 is the house, gateway 0 the outsider's false one.
@@ -46,21 +46,21 @@ pub const HOUSE: u16 = 1;
 pub const FALSE_GATEWAY: u16 = 0;
 
 // Who drew a random number, and the number.
-#[derive(Drop)]
+#[derive(Clone, Copy)]
 pub struct Drawn {
     pub drawer: Buyer,
     pub draw: u16,
 }
 
 // A hashed account.
-#[derive(Drop)]
+#[derive(Clone, Copy)]
 pub struct Hashed {
     pub drawn: Drawn,
     pub account: Account,
 }
 
 // The hash of Common.
-#[derive(Drop)]
+#[derive(Clone, Copy)]
 pub struct Mark {
     pub seller: Seller,
     pub buyer: Buyer,
@@ -68,7 +68,7 @@ pub struct Mark {
 }
 
 // What only the gateway with this key can read.
-#[derive(Drop)]
+#[derive(Clone, Copy)]
 pub struct Slip {
     pub key: Gateway,
     pub mark: Mark,

@@ -22,14 +22,14 @@ pub const REQUEST_SIGNED_WIDTH: usize = 1 + MARK_WIDTH + SLIP_WIDTH;
 pub const REPLY_SIGNED_WIDTH: usize = 2 + MARK_WIDTH;
 
 // By a seller, over the mark of an Invoice.
-#[derive(Drop)]
+#[derive(Clone, Copy)]
 pub struct InvoiceSigned {
     pub signer: Seller,
     pub mark: Mark,
 }
 
 // By a buyer, over the slip of a Payment and the mark.
-#[derive(Drop)]
+#[derive(Clone, Copy)]
 pub struct BuyerSigned {
     pub signer: Buyer,
     pub slip: Slip,
@@ -37,7 +37,7 @@ pub struct BuyerSigned {
 }
 
 // By a seller, over the mark and the slip of an Auth-Request.
-#[derive(Drop)]
+#[derive(Clone, Copy)]
 pub struct RequestSigned {
     pub signer: Seller,
     pub mark: Mark,
@@ -45,7 +45,7 @@ pub struct RequestSigned {
 }
 
 // By a gateway, over the code of an Auth-Response and the mark.
-#[derive(Drop)]
+#[derive(Clone, Copy)]
 pub struct ReplySigned {
     pub signer: Gateway,
     pub code: u16,

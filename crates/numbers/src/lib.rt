@@ -1,9 +1,11 @@
 // A number of step text: 1 to 5 digits, no needless leading 0, at most 65,535.
+#![tactic(auto)]
+
 ghost use Rattle.std.specs.Prelude.{◌≡◌, ◌≤◌, length};
 ghost use Rattle.numbers.specs.Number.{number_in};
 ghost use Rattle.numbers.specs.Digits.{no_needless0};
 
-#[derive(Drop)]
+#[derive(Clone, Copy)]
 pub enum Number {
     Is(u16),
     Unreadable,

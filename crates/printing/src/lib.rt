@@ -1,3 +1,5 @@
 // Printing into bytes that are lent: bytes, numbers, and the lines of a step, of a reply and of a refused text.
+#![tactic(auto)]
+
 pub mod printed;
 mod put;

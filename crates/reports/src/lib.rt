@@ -1,2 +1,4 @@
 // The report on a place of a record.
+#![tactic(auto)]
+
 pub mod report;

@@ -67,7 +67,7 @@ pub fn is_house_reply(m: &[u16]) -> bool
 }
 
 // What a place is asked about: the refusal, 0 if there is none, how many messages are earlier, and the mark of the payment.
-#[derive(Drop)]
+#[derive(Clone, Copy)]
 pub struct Reply {
     pub refusal: u8,
     pub earlier: usize,

@@ -1,4 +1,6 @@
 // The lines of a list that was played: a line for each step, then, by place, a line for each house reply.
+#![tactic(auto)]
+
 ghost use Rattle.std.specs.Prelude.{◌++◌, ◌≡◌, ◌*◌, ◌+◌, ◌<◌, ◌≤◌, length};
 ghost use Rattle.messages.specs.Layout.{message_width};
 ghost use Rattle.record.specs.Table.{messages, most_room};
@@ -15,7 +17,7 @@ use record::table::message;
 use reports::report::{is_house_reply, report_on};
 
 // A step's place, and how many messages there are after it.
-#[derive(Drop)]
+#[derive(Clone, Copy)]
 struct Placed {
     place: u16,
     n: u16,

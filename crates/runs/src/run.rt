@@ -15,7 +15,7 @@ pub const STEP_WIDTH: usize = 7;
 pub const MOST_STEPS: usize = 1024;
 
 // What a run answers: how many messages the record then has, or the number of the refusal.
-#[derive(Drop)]
+#[derive(Clone, Copy)]
 pub enum Ran {
     Messages(usize),
     Refused(u8),
@@ -32,7 +32,7 @@ fn are_whole_steps(steps: &[u16]) -> bool
 }
 
 // How many messages stand in the record after a step, and the step's number.
-#[derive(Drop)]
+#[derive(Clone, Copy)]
 struct After {
     n: usize,
     number: u8,

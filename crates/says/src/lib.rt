@@ -1,4 +1,6 @@
 // What a line says: the account answers, or a step.
+#![tactic(auto)]
+
 ghost use Rattle.std.specs.Prelude.{◌≡◌};
 ghost use Rattle.says.specs.Says.{answers_said, numbers_said, step_said, unread};
 ghost use Rattle.says.specs.Text.{is_ended};
@@ -9,7 +11,7 @@ use numbers::{Number, read_number};
 pub const STEP_WIDTH: usize = 7;
 
 // The seven numbers of a step, where the line is readable; else zeros.
-#[derive(Drop)]
+#[derive(Clone, Copy)]
 pub struct StepSaid {
     pub readable: bool,
     pub numbers: [u16; STEP_WIDTH],

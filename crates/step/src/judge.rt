@@ -14,7 +14,7 @@ use messages::parts::Place;
 use record::table::{is_lawful_record, room, write};
 
 // What a step answers: the place of the message that it added, or the number of the refusal.
-#[derive(Drop)]
+#[derive(Clone, Copy)]
 pub enum Answer {
     Accepted(Place),
     Refused(u8),

@@ -1,2 +1,4 @@
 // Step text: a text read into a table of steps.
+#![tactic(auto)]
+
 pub mod read;

@@ -15,7 +15,7 @@ pub const MOST_STEPS: usize = 1024;
 pub const MOST_BYTES: usize = 16384;
 
 // What a text answers: account answers and how many steps; the first unreadable line; or that it is too long, or the table too short.
-#[derive(Drop)]
+#[derive(Clone, Copy)]
 pub enum TextRead {
     Says(u16, usize),
     Unreadable(usize),
