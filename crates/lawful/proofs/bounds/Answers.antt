@@ -1,6 +1,5 @@
 -- `lawful::bounds` meets its promise. The loop's invariant: up to i both tables are as they are to be.
-use Prim.Native.Nat.{◌+◌, ◌-◌, ◌<◌, ◌≤◌, ℕ}
-use borrow.Author.Rules.{rules}
+use Prim.Native.Nat.{◌+◌, ◌<◌, ℕ}
 use lib.ListN.{get_or, length, length-set, set, take}
 use lib.Seq.{take_all, take-suc, take-suc-set}
 use mathlib.Core.List.{List, [], ◌++◌, ◌∷◌}
@@ -8,10 +7,9 @@ use mathlib.Core.Path.{◌∙◌, ◌≡◌, ap, ap₂, refl, sym}
 use native.Mathlib.Numerals.{add-one}
 use native.Mathlib.Omega.{arith}
 use Rattle.lawful.proofs.Lent.{long, of_letter}
-use Rattle.lawful.specs.Lent.{least_numbers, most_numbers, of_spans, positions}
+use Rattle.lawful.specs.Lent.{of_spans, positions}
 use Rattle.lawful.specs.declared.Span.{Span}
-use Rattle.lawful.proofs.bounds.Statement.{statement}
-use Rattle.lawful.proofs.bounds.Tie as tie
+use Rattle.lawful.proofs.bounds.Goals as goal
 
 -- one number more is as it is to be
 turn : (side : Span → ℕ) (l : List ℕ) (i x : ℕ) → take i l ≡ take i (of_spans side) → i < length l → i < positions → x ≡ get_or (of_spans side) i 0
@@ -30,24 +28,11 @@ over side l i e h k =
     let all = long side refl in
     sym (take_all i l (omega arith)) ∙ e ∙ take_all i (of_spans side) (omega arith)
 
-abbrev invariant-loop : tie.invariant-loop
-invariant-loop least₀ most₀ ranges i₀ least most i =
-    (i ≤ positions) × (length least ≡ positions) × (length most ≡ positions)
-    × (take i least ≡ take i least_numbers) × (take i most ≡ take i most_numbers)
-
-abbrev decreases-loop : tie.decreases-loop
-decreases-loop least₀ most₀ ranges i₀ least most i = positions - i
-
-loop-holds : tie.Need-loop-init invariant-loop decreases-loop
-loop-holds c =
-    let the-pre = c.before.before.requires in
-    (omega arith, the-pre.0, the-pre.1, refl, refl)
-
-loop-again : tie.Need-loop-preserved invariant-loop decreases-loop
-loop-again c =
-    let the-loop = c.before.before.loop in
-    let inside = c.before.loop-test.true in
-    let told = of_letter the-loop.i c.Span-of.result inside c.Span-of.ensures in (
+pub loop-i-preserved : goal.loop-i-preserved
+loop-i-preserved c =
+    let the-loop = c.loop-i in
+    let inside = c.loop-i-test.true in
+    let told = of_letter the-loop.i c.span_of-span.result inside c.span_of-span.ensures in (
       omega arith,
       simp length-set the-loop.invariant.1,
       simp length-set the-loop.invariant.2,
@@ -55,30 +40,10 @@ loop-again c =
       turn (λ (s : Span). s.1) the-loop.most the-loop.i _ the-loop.invariant.4 (omega arith) inside (told _),
     )
 
-returns : tie.Need-returns invariant-loop decreases-loop
+pub returns : goal.returns
 returns c =
-    let the-loop = c.before.loop in (
+    let the-loop = c.loop-i in (
       over _ the-loop.least the-loop.i the-loop.invariant.3 the-loop.invariant.1 (omega arith),
       over _ the-loop.most the-loop.i
           the-loop.invariant.4 the-loop.invariant.2 (omega arith),
     )
-
-pub bounds-spec : {M : Type 1} → statement M
-bounds-spec =
-    tie.close
-    (tie.spec
-    invariant-loop
-    decreases-loop
-    loop-holds
-    (λ c. omega arith)
-    (λ c κs. search rules)
-    (λ c. omega arith)
-    (λ c. omega arith)
-    (λ c. omega arith)
-    (λ c. omega arith)
-    (λ c. omega arith)
-    (λ c. omega arith)
-    loop-again
-    (λ c. omega arith)
-    (λ c. omega arith)
-    returns)
