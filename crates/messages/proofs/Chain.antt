@@ -1,10 +1,10 @@
 -- Chains of tests, as code that returns early meets them: a test that passed is skipped, one that failed stops the chain.
-use mathlib.Core.Bool.{Bool, true, false, not, ◌&&◌, and-true, and_assoc, true≢false, false≢true}
+use mathlib.Core.Bool.{Bool, true, false, ◌&&◌, and-true, and_assoc, true≢false, false≢true}
 use mathlib.Core.List.{List, [], ◌∷◌, ◌++◌}
 use mathlib.Core.Path.{◌≡◌, ◌∙◌, refl, sym, ap, subst}
 use Prim.Native.Nat.{ℕ, ◌≤◌, ◌<◌}
 use native.Mathlib.Omega.{arith}
-use borrow.Author.Tests.{le-leb, leb-true, lt-leb, not-false, not-true}
+use borrow.Author.Tests.{le-leb, leb-true, lt-leb}
 use lib.Dec.{eqb, leb}
 use lib.ListN.{length}
 use Rattle.messages.specs.Tests.{between, same}
@@ -19,11 +19,11 @@ pub last : {a r : Bool} → r ≡ a → r ≡ (a && true)
 last {a} p = p ∙ sym (and-true a)
 
 -- code that returns at `!f(..)`: what the promise `r ≡ a` of that call says where the code went on, and where it returned
-pub held : {a r : Bool} → r ≡ a → not r ≡ false → a ≡ true
-held p q = sym p ∙ not-false _ q
+pub held : {a r : Bool} → r ≡ a → r ≡ true → a ≡ true
+held p q = sym p ∙ q
 
-pub failed : {a r : Bool} → r ≡ a → not r ≡ true → a ≡ false
-failed p q = sym p ∙ not-true _ q
+pub failed : {a r : Bool} → r ≡ a → r ≡ false → a ≡ false
+failed p q = sym p ∙ q
 
 -- both of two tests that passed together
 pub left_of : (a b : Bool) → (a && b) ≡ true → a ≡ true
@@ -56,10 +56,10 @@ same_parts (x ∷ xs) (u ∷ us) ys vs e =
     ap (λ (b : Bool). eqb x u && b) (same_parts xs us ys vs (omega arith)) ∙ sym (and_assoc (eqb x u) (same xs us) (same ys vs))
 
 -- a loop that leaves at the first test that fails: x is what is asked from here on, r the test here, y what is asked after it
-pub leaves : {x : Bool} (r y : Bool) → x ≡ (r && y) → not r ≡ true → false ≡ x
-leaves true y e f = absurd (false≢true f)
+pub leaves : {x : Bool} (r y : Bool) → x ≡ (r && y) → r ≡ false → false ≡ x
+leaves true y e f = absurd (true≢false f)
 leaves false y e f = sym e
 
-pub goes_on : {x : Bool} (r y : Bool) → x ≡ (r && y) → not r ≡ false → y ≡ x
+pub goes_on : {x : Bool} (r y : Bool) → x ≡ (r && y) → r ≡ true → y ≡ x
 goes_on true y e f = sym e
-goes_on false y e f = absurd (true≢false f)
+goes_on false y e f = absurd (false≢true f)
