@@ -1,13 +1,43 @@
 -- A text parted into lines: its first line and those after it, and the line at a position.
-use mathlib.Core.Bool.{Bool, true, false, cond}
-use mathlib.Core.List.{List, [], ◌∷◌}
-use mathlib.Core.Path.{◌≡◌, ◌∙◌, refl, sym, ap, ap₂, subst}
-use Prim.Native.Nat.{ℕ, zero, suc, ◌+◌, ◌-◌, ◌^◌, ◌≤◌, ◌<◌}
-use borrow.Author.Tests.{leb-false, leb-true}
-use native.Mathlib.Omega.{arith}
-use lib.Dec.{eqb, leb}
-use lib.ListN.{drop, drop_of_length-le, get_or, length, length-drop, length-take, take}
-use lib.Seq.{drop-drop, drop-length, take_all, take-nil}
+use Rattle.std.proofs.Common.{
+  Bool,
+  true,
+  false,
+  cond,
+  List,
+  [],
+  ◌∷◌,
+  ◌≡◌,
+  ◌∙◌,
+  refl,
+  sym,
+  ap,
+  ap₂,
+  subst,
+  ℕ,
+  zero,
+  suc,
+  ◌+◌,
+  ◌-◌,
+  ◌^◌,
+  ◌≤◌,
+  ◌<◌,
+  leb-false,
+  leb-true,
+  arith,
+  eqb,
+  leb,
+  drop,
+  drop_of_length-le,
+  get_or,
+  length,
+  length-drop,
+  length-take,
+  take,
+  drop-drop,
+  take_all,
+}
+use Rattle.std.proofs.Math.Seq.{drop-length, take-nil}
 use Rattle.lines.specs.Lines.{Text, before, line_at, line_feed, lines, onto}
 
 -- each law goes by whether the first byte is of the kind
