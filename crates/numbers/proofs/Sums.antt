@@ -1,12 +1,5 @@
 -- The digits of a number, one by one, and what they come to.
-use mathlib.Core.Bool.{true, ◌&&◌}
-use mathlib.Core.Path.{◌≡◌, ◌∙◌, refl, sym, ap, subst}
-use Prim.Native.Nat.{ℕ, zero, suc, ◌+◌, ◌*◌, ◌-◌, ◌^◌, ◌≤◌, ◌<◌}
-use borrow.Author.Tests.{leb-true}
-use native.Mathlib.Numerals.{add-one}
-use native.Mathlib.Omega.{arith}
-use lib.Dec.{leb}
-use lib.ListN.{drop, get_or, length}
+use Rattle.std.proofs.Common.{true, ◌&&◌, ◌≡◌, ◌∙◌, refl, sym, ap, subst, ℕ, zero, suc, ◌+◌, ◌*◌, ◌-◌, ◌^◌, ◌≤◌, ◌<◌, leb-true, add-one, arith, leb, drop, get_or, length}
 use Rattle.messages.proofs.Chain.{right_of, skip}
 use Rattle.lines.proofs.Scans.{from}
 use Rattle.messages.specs.Tests.{all, between}

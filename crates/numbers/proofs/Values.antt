@@ -1,12 +1,7 @@
 -- What the code's tests say of a text as a number.
-use mathlib.Core.Bool.{Bool, true, false, ◌&&◌, and-false, cond, true≢false}
-use mathlib.Core.List.{List, [], ◌∷◌}
-use mathlib.Core.Path.{◌≡◌, ◌∙◌, sym, ap}
-use Prim.Native.Nat.{ℕ, zero, suc, ◌+◌, ◌≤◌, ◌<◌}
-use borrow.Author.Tests.{le-leb, lt-leb}
-use native.Mathlib.Omega.{arith}
-use lib.Dec.{leb}
-use lib.ListN.{drop, drop_of_length-le, get_or, length}
+use Rattle.std.proofs.Common.{Bool, true, false, ◌&&◌, cond, true≢false, List, [], ◌∷◌, ◌≡◌, ◌∙◌, sym, ap, ℕ, zero, suc, ◌+◌, ◌≤◌, ◌<◌, le-leb, arith, leb, drop, drop_of_length-le, get_or, length}
+use Rattle.std.proofs.lemmas.Bool.{lt-leb}
+use Rattle.std.proofs.Math.Bool.{and-false}
 use Rattle.messages.proofs.Chain.{last, skip}
 use Rattle.messages.specs.Tests.{all, between, every}
 use Rattle.numbers.proofs.Sums.{Reading, split-digits}
