@@ -1,21 +1,16 @@
 -- `forged::added::signed_by_buyer` meets its promise.
-use borrow.Author.Rules.{rules}
 use mathlib.Core.Path.{◌∙◌}
 use Rattle.record.specs.Table.{messages}
 use Rattle.rules.specs.Codes.{Item}
 use Rattle.rules.specs.Forged.{no_buyer}
 use Rattle.rules.specs.Items.{buyer_signed_in}
 use Rattle.forged.specs.Outside.{buyer_signature_in, gathered_in, item_in, slip_given}
-use Rattle.forged.proofs.added.signed_by_buyer.Statement.{statement}
-use Rattle.forged.proofs.added.signed_by_buyer.Tie as tie
+use Rattle.forged.proofs.added.signed_by_buyer.Goals as goal
 
-returns : tie.Need-returns
+pub returns : goal.returns
 unfolding buyer_signature_in gathered_in item_in slip_given
 returns c =
-    let the-args = c.before.before.before.before.args in
-    λ n ready G E. c.buyer-signature.ensures n ready
+    let the-args = c.args in
+    λ n ready G E. c.buyer_signature.ensures n ready
     ∙ (λ i. item_in Item.p buyer_signed_in (record { signer = no_buyer; slip = E i; mark = G i }) (messages n the-args.t.now)
     the-args.s.now)
-
-pub signed-by-buyer-spec : {M : Type 1} → statement M
-signed-by-buyer-spec = tie.close (tie.spec (λ c κs. search rules) returns)
