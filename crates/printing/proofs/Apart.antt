@@ -1,14 +1,8 @@
 -- Lines that are printed one after the other are the lines of the text that they make; and a line of numbers begins with a digit.
-use mathlib.Core.Bool.{Bool, true, false, false≢true, not, cond}
 use mathlib.Core.List.Memᴰ
-use mathlib.Core.List.{List, Memᴰ, [], ◌∷◌, ◌++◌, append_assoc, map}
-use mathlib.Core.Logic.{⊎_elim}
-use mathlib.Core.Path.{◌≡◌, ◌∙◌, refl, sym, ap, ap₂, subst}
-use Prim.Native.Nat.{ℕ, ◌+◌, ◌≤◌}
-use native.Mathlib.Omega.{arith}
-use borrow.Author.Tests.{ne_eqb}
-use lib.Dec.{eqb}
-use lib.ListN.{get_or, length}
+use mathlib.Core.List.{Memᴰ}
+use Rattle.std.proofs.Common.{Bool, true, false, not, cond, List, [], ◌∷◌, ◌++◌, append_assoc, map, ◌≡◌, ◌∙◌, refl, sym, ap, ap₂, subst, ⊎_elim, ℕ, ◌+◌, ◌≤◌, arith, ne_eqb, eqb, get_or, length}
+use Rattle.std.proofs.lemmas.Bool.{false≢true}
 use Rattle.messages.proofs.Chain.{bounds, left_of, right_of, skip}
 use Rattle.messages.specs.Tests.{all}
 use Rattle.lines.specs.Lines.{Text, line_feed, lines, onto, tab}

@@ -1,12 +1,8 @@
 -- The text of a number: how long it is, how it goes on from that of a tenth, and that it reads back.
-use mathlib.Core.Bool.{Bool, true, false, not, cond, ◌||◌, or-true}
-use mathlib.Core.List.{[], ◌∷◌, ◌++◌}
-use mathlib.Core.Path.{◌≡◌, ◌∙◌, refl, sym, ap}
-use Prim.Native.Nat.{ℕ, zero, suc, ◌+◌, ◌*◌, ◌-◌, ◌/◌, ◌%◌, ◌≤◌, ◌<◌}
-use native.Mathlib.Omega.{arith}
-use borrow.Author.Tests.{eq-eqb, le-leb, le-ltb, lt-ltb, ltb-false, ltb-true, ne_eqb}
-use lib.Dec.{eqb, ltb}
-use lib.ListN.{get_or, length, length-append, get_or-append}
+use Rattle.std.proofs.Common.{Bool, true, false, not, cond, ◌||◌, [], ◌∷◌, ◌++◌, ◌≡◌, ◌∙◌, refl, sym, ap, ℕ, zero, suc, ◌+◌, ◌*◌, ◌-◌, ◌/◌, ◌%◌, ◌≤◌, ◌<◌, arith, eq-eqb, le-leb, ltb-false, ltb-true, ne_eqb, eqb, ltb, get_or, length, length-append}
+use Rattle.std.proofs.Math.ListN.{get_or-append}
+use Rattle.std.proofs.Math.Bool.{or-true}
+use Rattle.std.proofs.lemmas.Bool.{le-ltb, lt-ltb}
 use Rattle.messages.proofs.Chain.{last, left_of, right_of, skip}
 use Rattle.messages.specs.Tests.{all, between}
 use Rattle.lines.specs.Lines.{Text}

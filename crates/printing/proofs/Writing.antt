@@ -1,30 +1,11 @@
 -- Bytes put one after the other are bytes put at once; and a loop that puts piece after piece.
-use mathlib.Core.List.{List, [], ◌∷◌, ◌++◌, append_assoc, append-nil}
-use mathlib.Core.Path.{◌≡◌, ◌∙◌, refl, sym, ap, ap₂, subst}
-use Prim.Native.Nat.{ℕ, suc, ◌+◌, ◌/◌, ◌%◌, ◌≤◌, ◌<◌}
-use native.Mathlib.Nat.{add-zero}
-use native.Mathlib.Numerals.{add-one}
-use native.Mathlib.Omega.{arith}
-use lib.ListN.{drop, length, length-append, length-set, set, take, take-append-drop}
-use lib.Seq.{drop_at, drop-drop, length-take-le, set_split, take_at}
-use Rattle.lines.specs.Lines.{Text}
+use Rattle.std.proofs.Common.{List, [], ◌∷◌, ◌++◌, append_assoc, append-nil, ◌≡◌, ◌∙◌, refl, sym, ap, ap₂, subst, ℕ, ◌+◌, ◌/◌, ◌%◌, ◌≤◌, ◌<◌, add-zero, arith, drop, length, length-append, take, take-append-drop, drop_at, drop-drop, length-take-le, take_at}
+use Rattle.lines.specs.Lines.{Text, tab}
 use Rattle.numbers.specs.Digits.{digit0, most_digits, most_number}
 use Rattle.printing.proofs.Digits.{decimal_longer, decimal_more, decimal_one, short}
 use Rattle.printing.specs.Decimal.{decimal}
 use Rattle.printing.specs.Put.{Put}
-
--- one byte
-pub one : (out : List ℕ) (p b : ℕ) → p < length out → Put out p (b ∷ []) 1 (set out p b) (p + 1)
-one out p b h =
-    record {
-      next = refl;
-      table =
-          set_split out p b h
-          ∙ sym (append_assoc (take p out) (b ∷ []) (drop (suc p) out))
-          ∙ ap (λ (k : ℕ). take p out ++ (b ∷ []) ++ drop k out) (sym (add-one p));
-      within = omega arith;
-      long = length-set out p b;
-    }
+use Rattle.printing.specs.Widths.{cell_widest}
 
 -- none
 pub none : (out : List ℕ) (p most : ℕ) → Put out p [] most out p
@@ -102,3 +83,8 @@ pub over : {before now : List ℕ} {p r most : ℕ} {all rest : Text} → Going 
 over {before} {now} {p} {r} {most} going none_left =
     subst (λ (bs : Text). Put before p bs most now r)
     (sym (append-nil going.done) ∙ ap (λ (x : Text). going.done ++ x) (sym none_left) ∙ going.whole) going.put
+
+-- a tab, and a number behind it
+pub cell : {before between after : List ℕ} {p q r : ℕ} (n : ℕ) → p + cell_widest ≤ length before → Put before p (tab ∷ []) 1 between q
+    → Put between q (decimal n) most_digits after r → Put before p (tab ∷ decimal n) cell_widest after r
+cell n fits first second = then {k = most_digits} (omega (arith, first.next)) first second

@@ -32,6 +32,7 @@ pub fn put_number(out: &mut [u8], at: usize, n: u16) -> usize
 }
 
 // A number that is not the first part of its line.
+#[tactic(auto, using(crate::proofs::Digits::short, crate::proofs::Digits::decimal_one, crate::proofs::Writing::cell))]
 pub fn put_cell(out: &mut [u8], at: usize, n: u16) -> usize
     requires { at + cell_widest ≤ length out.old }
     ensures { Put out.old at (tab ∷ decimal n) cell_widest out.new result }

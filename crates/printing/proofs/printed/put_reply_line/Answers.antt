@@ -1,0 +1,11 @@
+-- A letter, four cells and a line feed.
+use Rattle.std.proofs.Common.{arith}
+use Rattle.printing.proofs.Writing.{then}
+use Rattle.printing.proofs.printed.put_reply_line.Goals as goal
+
+pub returns : goal.returns
+returns c =
+    then (omega arith) c.put_byte-first.ensures
+    (then (omega arith) c.put_cell-second.ensures
+    (then (omega arith) c.put_cell-third.ensures
+    (then (omega arith) c.put_cell-fourth.ensures (then (omega arith) c.put_cell-fifth.ensures c.put_byte.ensures))))
