@@ -1,11 +1,5 @@
 -- A text parted at its tabs: its first part and those after it.
-use mathlib.Core.Bool.{Bool, true, false, cond}
-use mathlib.Core.List.{[], ◌∷◌}
-use mathlib.Core.Path.{◌≡◌, refl, ap}
-use Prim.Native.Nat.{ℕ, suc, ◌<◌}
-use native.Mathlib.Omega.{arith}
-use lib.Dec.{eqb}
-use lib.ListN.{drop, length, take}
+use Rattle.std.proofs.Common.{Bool, true, false, cond, [], ◌∷◌, ◌≡◌, refl, ap, ℕ, suc, ◌<◌, arith, eqb, drop, length, take}
 use Rattle.lines.specs.Lines.{Text, before, onto, tab}
 use Rattle.says.specs.Text.{parts}
 

@@ -1,13 +1,8 @@
 -- What a line says, by the code's tests: line 1 in one go, a step number by number.
-use mathlib.Core.Bool.{Bool, true, false, ◌&&◌, cond, true≢false, false≢true}
-use mathlib.Core.List.{List, [], ◌∷◌, ◌++◌, map, append_assoc, append-nil}
-use mathlib.Core.Path.{◌≡◌, ◌∙◌, refl, sym, ap, ap₂, subst}
-use Prim.Native.Nat.{ℕ, zero, suc, ◌+◌, ◌-◌, ◌≤◌, ◌<◌}
-use borrow.Author.Tests.{eq-eqb, le-leb, leb-false, leb-true, lt-leb}
-use native.Mathlib.Omega.{arith}
-use lib.Dec.{eqb, leb}
-use lib.ListN.{drop, drop_of_length-le, get_or, length, length-append, length-drop, length-map, length-take, replicate, set, take}
-use lib.Seq.{drop-drop, set_at, take_all, take-nil}
+use Rattle.std.proofs.Common.{Bool, true, false, ◌&&◌, cond, true≢false, List, [], ◌∷◌, ◌++◌, map, append_assoc, append-nil, ◌≡◌, ◌∙◌, refl, sym, ap, ap₂, subst, ℕ, zero, suc, ◌+◌, ◌-◌, ◌≤◌, ◌<◌, eq-eqb, le-leb, leb-false, leb-true, arith, eqb, leb, drop, drop_of_length-le, get_or, length, length-append, length-drop, length-take, replicate, set, take, drop-drop, take_all}
+use Rattle.std.proofs.Math.Seq.{set_at, take-nil}
+use Rattle.std.proofs.lemmas.Bool.{false≢true, lt-leb}
+use Rattle.std.proofs.lemmas.List.{length-map}
 use Rattle.messages.proofs.Chain.{last, skip}
 use Rattle.messages.specs.Layout.{filled}
 use Rattle.messages.specs.Tests.{all, every, same}
