@@ -1,13 +1,7 @@
 -- The lines after line 1, one by one: what is gathered so far, and what the rest of the text makes of it.
-use mathlib.Core.Bool.{Bool, true, false, ◌&&◌, cond}
-use mathlib.Core.List.{List, [], ◌∷◌, ◌++◌, append_assoc, append-nil, map}
-use mathlib.Core.Path.{◌≡◌, ◌∙◌, refl, sym, ap, subst}
-use Prim.Native.Nat.{ℕ, ◌+◌, ◌*◌, ◌-◌, ◌≤◌, ◌<◌}
-use borrow.Author.Tests.{le-ltb, leb-true, lt-ltb}
-use native.Mathlib.Omega.{arith}
-use lib.Dec.{leb}
-use lib.ListN.{drop, drop_of_length-le, length, length-append, length-map, length-replicate, replicate, take}
-use lib.Seq.{length-take-le, take_at}
+use Rattle.std.proofs.Common.{Bool, true, false, ◌&&◌, cond, List, [], ◌∷◌, ◌++◌, append_assoc, append-nil, map, ◌≡◌, ◌∙◌, refl, sym, ap, subst, ℕ, ◌+◌, ◌*◌, ◌-◌, ◌≤◌, ◌<◌, leb-true, arith, leb, drop, drop_of_length-le, length, length-append, replicate, take, length-take-le, take_at}
+use Rattle.std.proofs.lemmas.Bool.{le-ltb, lt-ltb}
+use Rattle.std.proofs.lemmas.List.{length-map, length-replicate}
 use Rattle.messages.proofs.Chain.{left_of, right_of}
 use Rattle.messages.specs.Layout.{filled, flat}
 use Rattle.record.specs.Table.{with_numbers}

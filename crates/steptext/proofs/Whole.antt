@@ -1,13 +1,7 @@
 -- A text as a whole: its size, its first line, and the step table afterwards.
-use mathlib.Core.Bool.{Bool, false, ◌&&◌, and-false, cond, false≢true}
-use mathlib.Core.List.{List, [], ◌∷◌, ◌++◌}
-use mathlib.Core.Path.{◌≡◌, ◌∙◌, refl, sym, ap, subst}
-use Prim.Native.Nat.{ℕ, ◌*◌, ◌-◌, ◌≤◌, ◌<◌}
-use borrow.Author.Tests.{le-leb, lt-leb}
-use native.Mathlib.Nat.{zero-add}
-use native.Mathlib.Omega.{arith}
-use lib.Dec.{leb}
-use lib.ListN.{drop, length, take}
+use Rattle.std.proofs.Common.{Bool, false, ◌&&◌, cond, List, [], ◌∷◌, ◌++◌, ◌≡◌, ◌∙◌, refl, sym, ap, subst, ℕ, ◌*◌, ◌-◌, ◌≤◌, ◌<◌, le-leb, zero-add, arith, leb, drop, length, take}
+use Rattle.std.proofs.Math.Bool.{and-false}
+use Rattle.std.proofs.lemmas.Bool.{false≢true, lt-leb}
 use Rattle.messages.specs.Layout.{flat}
 use Rattle.record.specs.Table.{with_numbers}
 use Rattle.rules.specs.Run.{most_steps, over, step_width}
