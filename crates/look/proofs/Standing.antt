@@ -2,13 +2,11 @@
 use mathlib.Core.Bool.{Bool, true, false, ◌&&◌, ◌||◌, cond, or_assoc, or_comm}
 use mathlib.Core.List.{List, [], ◌∷◌, ◌++◌}
 use mathlib.Core.Path.{◌≡◌, ◌∙◌, refl, sym, ap, ap₂, subst}
-use Prim.Native.Nat.{ℕ, suc, ◌+◌, ◌*◌, ◌-◌, ◌≤◌, ◌<◌, min}
-use native.Mathlib.Numerals.{add-one}
+use Prim.Native.Nat.{ℕ, suc, ◌+◌, ◌*◌, ◌-◌, min}
 use native.Mathlib.Omega.{arith}
 use borrow.Author.Tests.{ltb-false, ltb-true}
 use lib.Dec.{eqb, ltb}
-use lib.ListN.{drop, drop_of_length-le, get_or, length, take}
-use lib.Seq.{drop-cons}
+use lib.ListN.{drop, length, take}
 use Rattle.messages.specs.Layout.{message_width}
 use Rattle.messages.specs.Parts.{Message}
 use Rattle.record.proofs.Cut.{cut_next}
@@ -28,15 +26,6 @@ unlike (x ∷ a) (y ∷ b) h = by (eqb x y) (unlike a b (λ (e : length a ≡ le
     by true e = e
     by false e = refl
 
-pub same_from : (a b : List ℕ) (i : ℕ) → i < length a → i < length b
-    → same (drop i a) (drop i b) ≡ (eqb (get_or a i 0) (get_or b i 0) && same (drop (i + 1) a) (drop (i + 1) b))
-same_from a b i h w =
-    ap₂ same (drop-cons a i 0 h) (drop-cons b i 0 w)
-    ∙ ap (λ (k : ℕ). eqb (get_or a i 0) (get_or b i 0) && same (drop k a) (drop k b)) (sym (add-one i))
-
-pub same_over : (a b : List ℕ) (i : ℕ) → length a ≤ i → length b ≤ i → true ≡ same (drop i a) (drop i b)
-same_over a b i h w = sym (ap₂ same (drop_of_length-le a {i = i} h) (drop_of_length-le b {i = i} w))
-
 -- one message more at the end
 stands_more : (x : Message) (R : Record) (y : Message) → stands x (R ++ (y ∷ [])) ≡ (same y x || stands x R)
 stands_more x [] y = refl
@@ -46,12 +35,8 @@ stands_more x (z ∷ R) y =
     ∙ ap (λ (b : Bool). b || stands x R) (or_comm (same z x) (same y x))
     ∙ or_assoc (same y x) (same z x) (stands x R)
 
--- what has been seen, with one message more or without it
+-- what has been seen, with one message more
 module _ (initiate invoice payment request : Message) (R : Record) (m : Message) {s : Seen} where
-  pub not-counted : (counts : Bool) → counts ≡ false → s ≡ seen_of initiate invoice payment request R
-      → s ≡ seen_of initiate invoice payment request (cond counts (R ++ (m ∷ [])) R)
-  not-counted counts e p = subst (λ (b : Bool). s ≡ seen_of initiate invoice payment request (cond b (R ++ (m ∷ [])) R)) (sym e) p
-
   pub counted : (counts : Bool) {a b c d p q u v : Bool} → counts ≡ true → s ≡ seen_of initiate invoice payment request R
       → a ≡ (p || s.initiated) → p ≡ same m initiate → b ≡ (q || s.invoiced) → q ≡ same m invoice
       → c ≡ (u || s.paid) → u ≡ same m payment → d ≡ (v || s.asked) → v ≡ same m request
@@ -72,14 +57,6 @@ module _ (initiate invoice payment request : Message) (R : Record) (m : Message)
       more : (x : Message) {now found before : Bool} → now ≡ (found || before) → found ≡ same m x → before ≡ stands x R
           → now ≡ stands x (R ++ (m ∷ []))
       more x g h k = g ∙ ap₂ ◌||◌ h k ∙ sym (stands_more x R m)
-
--- nothing is seen before the first
-pub none_seen : (initiate invoice payment request : Message) (t : List ℕ) (first : ℕ)
-    → ◌≡◌ {A = Seen} (record { initiated = false; invoiced = false; paid = false; asked = false })
-    (seen_of initiate invoice payment request (messages (min 0 first) t))
-none_seen initiate invoice payment request t first =
-    let none : min 0 first ≡ 0 = omega arith in
-    ap (λ (k : ℕ). seen_of initiate invoice payment request (messages k t)) (sym none)
 
 -- a look through a table: it counts the message at place i + 1 if that is one of the first
 pub next_counted : (t : List ℕ) (i first : ℕ) {m : Message} → m ≡ message_in t (record { 0 = i + 1 })
