@@ -18,14 +18,6 @@ use Rattle.says.specs.Says.{answers_said, numbers_said, read_as, step_said, unre
 use Rattle.lines.specs.Lines.{Text, before, onto, tab}
 use Rattle.says.specs.Text.{answers_in, answers_start, body, is_answers_line, is_ended, is_step_line, letter_a, parts, step_in}
 
-pub never_ended : (l : Text) → length l < 1 → false ≡ is_ended l
-never_ended [] h = refl
-never_ended (x ∷ l) h = absurd (omega arith)
-
-pub some_byte : (l : Text) → is_ended l ≡ true → 1 ≤ length l
-some_byte [] e = absurd (false≢true e)
-some_byte (x ∷ l) e = omega arith
-
 -- line 1
 
 -- a part of a text, cut at its end first or at its start
