@@ -2,7 +2,6 @@
 -- nothing is accepted is refused there first.
 use mathlib.Core.Bool.{true}
 use mathlib.Core.Path.{◌≡◌, refl}
-use Rattle.rules.proofs.Session.{sessions}
 use Rattle.rules.specs.Lists.{lists_right, right, trials, written}
 use Rattle.rules.specs.Report.{report_on}
 use Rattle.rules.specs.Run.{called, played}
