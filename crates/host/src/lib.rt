@@ -1,5 +1,5 @@
-// What hosts in C call, on numbers and lent tables: thin, each with the promise of the operation behind it. host/kp_bench.h says in
-// words what the arguments are.
+// What hosts in C call, on numbers and lent tables: thin, each with the promise of the operation behind it. The crate host_c exports
+// them under the same names. host/kp_bench.h says in words what the arguments are.
 #![tactic(auto)]
 
 ghost use Rattle.std.specs.Prelude.{[], ◌∷◌, ◌≡◌, length};
@@ -15,8 +15,7 @@ use runs::run::{Ran, run};
 use step::judge::{Answer, step};
 use steptext::read::{TextRead, read_text};
 
-#[unsafe(no_mangle)]
-pub extern "C" fn kp_step(
+pub fn kp_step(
     table: &mut [u16],
     n: usize,
     answers: u16,
@@ -43,8 +42,7 @@ pub extern "C" fn kp_step(
     }
 }
 
-#[unsafe(no_mangle)]
-pub extern "C" fn kp_run(
+pub fn kp_run(
     table: &mut [u16],
     answers: u16,
     steps: &[u16],
@@ -65,15 +63,13 @@ pub extern "C" fn kp_run(
     }
 }
 
-#[unsafe(no_mangle)]
-pub extern "C" fn kp_report(table: &[u16], n: usize, place: usize) -> u8
+pub fn kp_report(table: &[u16], n: usize, place: usize) -> u8
     ensures { result ≡ report_of n table.now (record { 0 = place }) }
 {
     report(table, n, Place(place))
 }
 
-#[unsafe(no_mangle)]
-pub extern "C" fn kp_read(
+pub fn kp_read(
     text: &[u8],
     steps: &mut [u16],
     answers: &mut u16,
