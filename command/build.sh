@@ -14,22 +14,46 @@ is_built() {
     [ -z "$(find "$root/crates.txt" "$root/crates" -name must-fail -prune -o -type f -newer "$since" -print -quit)" ]
 }
 
-# crates_of NAME: how many crates of crates.txt a crate rests on, itself among them. What the program does not use is not proved for it.
+# crates_of NAME: the crates of crates.txt that a crate rests on and itself, each behind those that it uses. What the program does not use is
+# not proved for it.
 crates_of() {
     awk -F: -v name="$1" '
-        { uses[$1] = $2 }
+        { sub(/ .*/, "", $1); uses[$1] = $2 }
         function visit(crate,    names, i, n) {
             if (!(crate in uses) || seen[crate]++)
                 return
-            total++
             n = split(uses[crate], names, " ")
             for (i = 1; i <= n; i++)
                 visit(names[i])
+            print crate
         }
-        END {
-            visit(name)
-            print total + 0
-        }' "$root/crates.txt"
+        END { visit(name) }' "$root/crates.txt"
+}
+
+# prove NAME: proves and builds a crate: a library, or the program, which is run once on no text
+prove() {
+    cd "$root/crates/$1" || return
+    if [ "$1" = bench ]; then
+        rt run >/dev/null
+    else
+        rt lib
+    fi
+}
+
+# prove_each NAME...: proves crates one after the other, all that rt prints going to the log, and names each that is done. Of a crate that has
+# not changed rt prints nothing.
+prove_each() {
+    local crate said
+    : >"$log"
+    for crate; do
+        said=$(wc -c <"$log")
+        (prove "$crate") >>"$log" 2>&1 </dev/null || return 1
+        if [ "$(wc -c <"$log")" -eq "$said" ]; then
+            echo "$crate unchanged"
+        else
+            echo "$crate proved"
+        fi
+    done
 }
 
 # Whether a line can be written again in place
@@ -46,7 +70,7 @@ tell() {
     fi
 }
 
-# progress TOTAL: reads what rt prints, and tells of each crate when it is proved; on a terminal the time goes on between two of them. A line
+# progress TOTAL: reads the names of the crates that are done, and tells of each; on a terminal the time goes on between two of them. A line
 # that has come in part when a second is over is kept until the rest is there.
 progress() {
     local total=$1 done=0 now=starting rewrite='' part='' line status
@@ -60,11 +84,9 @@ progress() {
         elif [ "$status" -gt 0 ]; then
             break
         else
-            if [[ $part =~ ^rt:\ ([^ ]+)\ proved\ \((unchanged)? ]]; then
-                done=$((done + 1))
-                now="${BASH_REMATCH[1]} ${BASH_REMATCH[2]:-proved}"
-                tell "$done of $total: $now, $SECONDS s so far"
-            fi
+            done=$((done + 1))
+            now=$part
+            tell "$done of $total: $now, $SECONDS s so far"
             part=''
         fi
     done
@@ -78,18 +100,18 @@ build() {
         complain "the program must be built, and rt of the Rattle toolchain is not on the PATH"
         return 1
     fi
-    local total
-    total=$(crates_of bench)
-    complain "building the program, which proves it: $total crates, usually 2 to 5 minutes from nothing; the log is target/bench.log"
-    mkdir -p "$root/target"
+    local crates
+    mapfile -t crates < <(crates_of bench)
+    complain "building the program, which proves it: ${#crates[@]} crates, usually 2 to 5 minutes from nothing; the log is target/bench.log"
+    mkdir -p "$(dirname "$program")"
     SECONDS=0
-    # standard input may be a list, which is for the program
-    (cd "$root" && rt check bench) 2>&1 </dev/null | tee "$log" | progress "$total"
+    prove_each "${crates[@]}" | progress "${#crates[@]}"
     if [ "${PIPESTATUS[0]}" -ne 0 ]; then
         complain "the program could not be built; target/bench.log ends with"
         tail -n 5 "$log" >&2
         return 1
     fi
+    cp "$root/crates/bench/out/bench" "$program" || return 1
     complain "the program is built, $SECONDS s"
     touch "$built"
 }

@@ -5,24 +5,28 @@
 . "$(dirname "$0")/common.sh"
 
 # a repository of four crates, three of which the program needs, and an rt that prints as rt does
-mkdir -p "$room/copy/crates" "$room/tools"
+mkdir -p "$room/copy/crates"/{low,middle,other,bench} "$room/tools"
 cp -r "$root/bench" "$root/command" "$room/copy/"
-printf 'low:\nmiddle: low io\nother: low\nbench: middle low io\n' >"$room/copy/crates.txt"
+printf 'low:\nmiddle: low io\nother staticlib: low\nbench: middle low io\n' >"$room/copy/crates.txt"
 cat >"$room/tools/rt" <<'RT'
 #!/bin/sh
-echo "rt: low proved (unchanged since it was last proved)"
-echo "fn middle::first: proved"
-echo "rt: middle proved (7 s)"
-[ ! -e fails ] || { echo "rt: bench NOT PROVED (exit 1, 3 s)"; echo "rt: FAILED: bench"; exit 1; }
-# a line that comes in two parts, more than a second apart
-printf 'rt: ben'
-[ ! -e slow ] || sleep 1.2
-echo "ch proved (11 s)"
-echo "rt: bench ran as nobody, and wrote what its file 'stdout' has (0 s)"
-echo "rt: ok, 3 crates proved"
-mkdir -p target/bin
-printf '#!/bin/sh\ncat >/dev/null\n' >target/bin/bench
-chmod +x target/bin/bench
+case "$1 ${PWD##*/}" in
+"lib low") ;;
+"lib middle")
+    echo "fn middle::first: proved"
+    echo "logic=proved functions=1"
+    ;;
+"run bench")
+    [ ! -e ../../slow ] || sleep 1.2
+    [ ! -e ../../fails ] || { echo "fn bench::main: not proved" >&2; echo "logic=not-proved" >&2; exit 1; }
+    echo "fn bench::main: proved" >&2
+    echo "what the program prints"
+    mkdir -p out
+    printf '#!/bin/sh\ncat >/dev/null\n' >out/bench
+    chmod +x out/bench
+    ;;
+*) exit 2 ;;
+esac
 RT
 chmod +x "$room/tools/rt"
 PATH=$room/tools:$PATH
@@ -45,6 +49,7 @@ bench: 3 of 3: bench proved, T s so far
 bench: the program is built, T s" timeless ./bench x.txt
 outcome "nothing to build" 0 "" "" ./bench x.txt
 grep -q '^fn middle::first: proved$' target/bench.log || differs "the log has not all that rt printed"
+! grep -q 'what the program prints' target/bench.log || differs "the log has what the program printed"
 
 touch fails
 rm target/bin/bench
@@ -52,11 +57,10 @@ outcome "a crate that is not proved" 3 "" "$begun
 bench: 1 of 3: low unchanged, T s so far
 bench: 2 of 3: middle proved, T s so far
 bench: the program could not be built; target/bench.log ends with
-rt: low proved (unchanged since it was last proved)
 fn middle::first: proved
-rt: middle proved (7 s)
-rt: bench NOT PROVED (exit 1, 3 s)
-rt: FAILED: bench" timeless ./bench x.txt
+logic=proved functions=1
+fn bench::main: not proved
+logic=not-proved" timeless ./bench x.txt
 rm fails
 
 # on a terminal it is one line, written again and again, and each second too: so only what differs from the one before counts. `script` gives
