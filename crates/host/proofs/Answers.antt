@@ -29,7 +29,7 @@ ran_as o r told table bytes w e =
       number = ap ran_number (sym e) ∙ w.number;
       count = ap ran_count (sym e) ∙ w.n;
       table-left = w.table-left;
-      bytes_left = w.bytes-left;
+      bytes_left = w.bytes_left;
     }
 
 pub read_as_lem : (o : Reading) (t : List ℕ) (r told : TextRead) (left : List ℕ) → Leaves o t r left → r ≡ told
