@@ -71,7 +71,7 @@ run_unique answers t xs bytes r r' table table' verdicts verdicts' w w' = (
   same_ran r r' (w.number ∙ sym w'.number) (w.n ∙ sym w'.n) (w.told-apart ∙ sym w'.told-apart),
   w.table-left
       ∙ sym w'.table-left,
-  w.bytes-left ∙ sym w'.bytes-left,
+  w.bytes_left ∙ sym w'.bytes_left,
 )
 
 pub played_unique : PlayedUnique
