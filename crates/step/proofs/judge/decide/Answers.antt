@@ -1,11 +1,11 @@
 -- `step::judge::decide` meets its promise.
-use borrow.Author.Tests.{le-ltb, leb-false, leb-true, lt-ltb}
+use borrow.Author.Tests.{le-ltb, lt-ltb}
 use mathlib.Core.Path.{◌∙◌, ap, sym}
 use native.Mathlib.Omega.{arith}
 use Rattle.messages.proofs.Chain.{failed, held}
 use Rattle.arguments.proofs.Places.{for_table, without_row}
 use Rattle.record.proofs.Whole.{under_most}
-use Rattle.record.specs.Table.{room_of, with_message}
+use Rattle.record.specs.Table.{room_of}
 use Rattle.rules.specs.Step.{number_of, place_of, table_after}
 use Rattle.step.proofs.Outcomes.{full, not-allowed, refuses, taken}
 use Rattle.step.proofs.judge.decide.Goals as goal
