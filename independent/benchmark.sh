@@ -1,6 +1,6 @@
 #!/usr/bin/env bash
 # benchmark.sh [REPEATS [WORD]]: times the proved engine beside the independent program, both built for release, in one process. The engine's
-# library for this machine is built first if it is not there or older than the crates. No part of the gate: a time depends on the machine.
+# library is built first if it is not there or older than the crates. No part of the gate: a time depends on the machine.
 set -eu
 cd "$(dirname "$0")/.."
 library=target/libhost.a
