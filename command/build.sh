@@ -11,7 +11,7 @@ is_built() {
     [ -x "$program" ] || return 1
     local since=$program
     [ "$built" -nt "$since" ] && since=$built
-    [ -z "$(find "$root/crates.txt" "$root/crates" -name must-fail -prune -o -type f -newer "$since" -print -quit)" ]
+    [ -z "$(find "$root/crates.txt" "$root/crates" \( -name must-fail -o -name out \) -prune -o -type f -newer "$since" -print -quit)" ]
 }
 
 # crates_of NAME: the crates of crates.txt that a crate rests on and itself, each behind those that it uses. What the program does not use is

@@ -11,7 +11,7 @@ awk -F: '
         for (i = 1; i <= count; i++) if (rests(used[i], to)) return 1
         return 0
     }
-    /^[a-z]/ { names[++crates] = $1; uses[$1] = $2; listed[$1] = 1 }
+    /^[a-z]/ { sub(/ .*/, "", $1); names[++crates] = $1; uses[$1] = $2; listed[$1] = 1 }
     END {
         print "```mermaid"
         print "graph TD"

@@ -4,7 +4,7 @@
 set -eu
 cd "$(dirname "$0")/.."
 library=target/libhost.a
-if [ ! -f $library ] || [ -n "$(find crates crates.txt -newer $library -print -quit)" ]; then
+if [ ! -f $library ] || [ -n "$(find crates crates.txt -name out -prune -o -type f -newer $library -print -quit)" ]; then
     host/library.sh >&2
 fi
 KP_LIB=$PWD/target
