@@ -1,6 +1,8 @@
--- `runs::run::run` meets its promise.
+-- `runs::run::run` meets its promise. What the tests before a return told is found among the facts there, and not by its name.
 use borrow.Author.Tests.{le-leb, lt-leb}
 use lib.ListN.{length}
+use mathlib.Core.Bool.{true}
+use mathlib.Core.Path.{◌≡◌}
 use Rattle.messages.proofs.Chain.{failed, held}
 use Rattle.rules.specs.Run.{step_count}
 use Rattle.runs.proofs.Refusals.{few_bytes, no_steps, not-whole, plays}
@@ -12,13 +14,16 @@ returns-then-broken c =
 
 pub returns-then-uneven : goal.returns-then-uneven
 returns-then-uneven c =
+    let whole_table : c.is_whole-broken.result ≡ true = cc in
     no_steps c.args.answers c.args.t.now c.args.steps.now c.args.verdicts.now
-    (held c.is_whole-broken.ensures c.if-broken.false) (failed c.are_whole_steps-uneven.ensures c.if-uneven.true)
+    (held c.is_whole-broken.ensures whole_table) (failed c.are_whole_steps-uneven.ensures c.if-uneven.true)
 
 pub returns-then-short : goal.returns-then-short
 returns-then-short c =
+    let whole_table : c.is_whole-broken.result ≡ true = cc in
+    let even : c.are_whole_steps-uneven.result ≡ true = cc in
     few_bytes c.args.answers c.args.t.now c.args.steps.now c.args.verdicts.now
-    (held c.is_whole-broken.ensures c.if-broken.false) (held c.are_whole_steps-uneven.ensures c.if-uneven.false)
+    (held c.is_whole-broken.ensures whole_table) (held c.are_whole_steps-uneven.ensures even)
     (lt-leb (step_count c.args.steps.now) (length c.args.verdicts.now) c.if-short.true)
 
 pub returns : goal.returns

@@ -1,6 +1,7 @@
--- `step::judge::decide` meets its promise.
+-- `step::judge::decide` meets its promise. What the tests before a return told is found among the facts there, and not by its name.
 use borrow.Author.Tests.{le-ltb, lt-ltb}
-use mathlib.Core.Path.{◌∙◌, ap, sym}
+use mathlib.Core.Bool.{true}
+use mathlib.Core.Path.{◌≡◌, ap, sym}
 use native.Mathlib.Omega.{arith}
 use Rattle.messages.proofs.Chain.{failed, held}
 use Rattle.arguments.proofs.Places.{for_table, without_row}
@@ -22,9 +23,10 @@ returns-then-barred c =
 pub returns-then-full : goal.returns-then-full
 returns-then-full c =
     let told = c.is_allowed-barred.ensures c.args.n (without_row c.requires.1) in
+    let met : c.is_allowed-barred.result ≡ true = cc in
     let none = le-ltb c.args.n (room_of c.args.t.now) (omega (arith, c.if-full.true, c.room.ensures)) in
     refuses c.args.n c.args.t.now
-    (full c.args.answers c.args.n c.args.t.now c.args.s.now (held told c.if-barred.false) none)
+    (full c.args.answers c.args.n c.args.t.now c.args.s.now (held told met) none)
 
 pub returns : goal.returns
 returns c =
@@ -34,6 +36,6 @@ returns c =
     record {
       number = sym (ap number_of came);
       place = sym (ap (place_of c.args.n) came);
-      table = c.write.ensures ∙ sym (ap (table_after c.args.n c.args.t.now) came);
+      table = cc (ap (table_after c.args.n c.args.t.now) came);
       small = omega (arith, under_most c.args.n c.args.t.now c.requires.0 (omega (arith, c.if-full.false, c.room.ensures)));
     }
