@@ -41,17 +41,17 @@ prove() {
 }
 
 # prove_each NAME...: proves crates one after the other, all that rt prints going to the log, and names each that is done. Of a crate that has
-# not changed rt prints nothing.
+# not changed rt proves nothing, and says no `logic=proved`.
 prove_each() {
     local crate said
     : >"$log"
     for crate; do
         said=$(wc -c <"$log")
         (prove "$crate") >>"$log" 2>&1 </dev/null || return 1
-        if [ "$(wc -c <"$log")" -eq "$said" ]; then
-            echo "$crate unchanged"
-        else
+        if tail -c "+$((said + 1))" "$log" | awk '/^logic=proved/ { proved = 1 } END { exit !proved }'; then
             echo "$crate proved"
+        else
+            echo "$crate unchanged"
         fi
     done
 }
@@ -102,13 +102,14 @@ build() {
     fi
     local crates
     mapfile -t crates < <(crates_of bench)
-    complain "building the program, which proves it: ${#crates[@]} crates, usually 2 to 5 minutes from nothing; the log is target/bench.log"
+    complain "building the program, which proves it: ${#crates[@]} crates, some minutes from nothing; the log is target/bench.log"
     mkdir -p "$(dirname "$program")"
     SECONDS=0
     prove_each "${crates[@]}" | progress "${#crates[@]}"
     if [ "${PIPESTATUS[0]}" -ne 0 ]; then
         complain "the program could not be built; target/bench.log ends with"
-        tail -n 5 "$log" >&2
+        # but for the lines that count what was read
+        awk '!/^(logic |library |statements |crate )/' "$log" | tail -n 5 >&2
         return 1
     fi
     cp "$root/crates/bench/out/bench" "$program" || return 1

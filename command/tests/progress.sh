@@ -19,7 +19,12 @@ case "$1 ${PWD##*/}" in
 "run bench")
     [ ! -e ../../slow ] || sleep 1.2
     [ ! -e ../../fails ] || { echo "fn bench::main: not proved" >&2; echo "logic=not-proved" >&2; exit 1; }
-    echo "fn bench::main: proved" >&2
+    if [ -e out/bench ]; then
+        echo "rt: nothing has changed since the last proved build" >&2
+    else
+        echo "fn bench::main: proved" >&2
+        echo "logic=proved functions=1" >&2
+    fi
     echo "what the program prints"
     mkdir -p out
     printf '#!/bin/sh\ncat >/dev/null\n' >out/bench
@@ -41,7 +46,7 @@ timeless() {
     return $status
 }
 
-begun="bench: building the program, which proves it: 3 crates, usually 2 to 5 minutes from nothing; the log is target/bench.log"
+begun="bench: building the program, which proves it: 3 crates, some minutes from nothing; the log is target/bench.log"
 outcome "the first build" 0 "" "$begun
 bench: 1 of 3: low unchanged, T s so far
 bench: 2 of 3: middle proved, T s so far
@@ -51,8 +56,15 @@ outcome "nothing to build" 0 "" "" ./bench x.txt
 grep -q '^fn middle::first: proved$' target/bench.log || differs "the log has not all that rt printed"
 ! grep -q 'what the program prints' target/bench.log || differs "the log has what the program printed"
 
+touch crates/bench/newer
+outcome "a program that has not changed" 0 "" "$begun
+bench: 1 of 3: low unchanged, T s so far
+bench: 2 of 3: middle proved, T s so far
+bench: 3 of 3: bench unchanged, T s so far
+bench: the program is built, T s" timeless ./bench x.txt
+
 touch fails
-rm target/bin/bench
+rm -r target/bin/bench crates/bench/out
 outcome "a crate that is not proved" 3 "" "$begun
 bench: 1 of 3: low unchanged, T s so far
 bench: 2 of 3: middle proved, T s so far
