@@ -1,5 +1,5 @@
 -- `look::look::look_for` meets its promise.
-use Rattle.std.proofs.Common.{ℕ, ◌≡◌, ◌∙◌, [], ◌∷◌, ◌++◌, cond, ltb, min, ap, sym, arith}
+use Rattle.std.proofs.Common.{Bool, ℕ, ◌≡◌, ◌∙◌, [], ◌∷◌, ◌++◌, cond, min, ap, sym, arith}
 use Rattle.std.proofs.lemmas.Bool.{false≢true}
 use Rattle.messages.proofs.Chain.{goes_on, leaves}
 use Rattle.record.proofs.Cut.{test_next, test_over}
@@ -22,13 +22,14 @@ pub loop-i-preserved : goal.loop-i-preserved
 loop-i-preserved c =
     let R = messages (min c.loop-i.i c.args.earlier) c.args.t.now in
     let seen : Record → Seen = seen_of c.args.initiate.now c.args.invoice.now c.args.payment.now c.args.request.now in
-    let told : c.noted-seen.result ≡ seen (cond (ltb c.loop-i.i c.args.earlier) (R ++ (c.message-m.result.now ∷ [])) R) =
-    c.noted-seen.ensures R c.loop-i.invariant.2 in (
+    let told = c.noted-seen.ensures R c.loop-i.invariant.2 in (
       omega arith,
       goes_on c.passes.result _
           (test_next (passed c.args.trusted) c.args.n c.args.t.now c.loop-i.i _ c.loop-i-test.true c.message-m.ensures.0 c.passes.ensures)
           c.if-not-passes.false ∙ c.loop-i.invariant.1,
-      told ∙ ap seen (next_counted c.args.t.now c.loop-i.i c.args.earlier c.message-m.ensures.0),
+      -- that the message counts if its place is earlier is found by arithmetic, however the code tests it
+      told ∙ ap (λ (b : Bool). seen (cond b (R ++ (c.message-m.result.now ∷ [])) R)) (grind arith)
+          ∙ ap seen (next_counted c.args.t.now c.loop-i.i c.args.earlier c.message-m.ensures.0),
     )
 
 pub returns : goal.returns
