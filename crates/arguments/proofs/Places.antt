@@ -45,4 +45,4 @@ for_table {n} {t} {s = s} ready =
     }
 
 pub without_row : {n : ℕ} {t row s : List ℕ} → Ready n t row s → ReadyStep n t s
-without_row {n} {t} {s = s} ready = subst (λ (z : List ℕ). Ready n t z s) ready.known.its-row ready
+without_row {n} {t} {s = s} ready = subst (λ (z : List ℕ). Ready n t z s) ready.known.its_row ready

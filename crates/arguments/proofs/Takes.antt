@@ -49,11 +49,11 @@ six code l k =
 
 -- the row beside a step
 pub six_letters : {row s : List ℕ} → Known row s → length row ≡ 6
-six_letters {s = s} k = ap length k.its-row ∙ length-map (row_of (code_of s)).takes letter ∙ six (code_of s) k.low k.high
+six_letters {s = s} k = ap length k.its_row ∙ length-map (row_of (code_of s)).takes letter ∙ six (code_of s) k.low k.high
 
 pub letter_at : {row s : List ℕ} → Known row s → (i : ℕ) → i < 6 → get_or row i 0 ≡ letter (get_or (row_of (code_of s)).takes i unused)
 letter_at {s = s} k i l =
-    ap (λ (z : List ℕ). get_or z i 0) k.its-row
+    ap (λ (z : List ℕ). get_or z i 0) k.its_row
     ∙ mapped letter (row_of (code_of s)).takes i unused 0 (subst (λ (z : ℕ). i < z) (sym (six (code_of s) k.low k.high)) l)
 
 -- a letter tells its argument
@@ -85,7 +85,7 @@ pub known_step : {row s : List ℕ} → length s ≡ 7 → known (code_of s) ≡
 known_step {s = s} l e r =
     record {
       seven = l;
-      its-row = r;
+      its_row = r;
       low = (bounds 1 (code_of s) most_code e).0;
       high = (bounds 1 (code_of s) most_code e).1;
     }

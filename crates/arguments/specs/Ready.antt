@@ -11,7 +11,7 @@ pub record Known (row s : List ℕ) : Type 0 where
   pub seven : length s ≡ 7
   pub low : 1 ≤ code_of s
   pub high : code_of s ≤ most_code
-  pub its-row : row ≡ row_letters (row_of (code_of s))
+  pub its_row : row ≡ row_letters (row_of (code_of s))
 
 -- and every place that it names in 1..n, in a table with room for n messages
 pub record Ready (n : ℕ) (t row s : List ℕ) : Type 0 where

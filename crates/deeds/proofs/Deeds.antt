@@ -68,14 +68,14 @@ freely R ks xs (forges k) e = refl
 
 pub unconditional : (n : ℕ) (t s : List ℕ) → 1 ≤ code_of s → code_of s ≤ most_code → (code_of s ≡ 2 → ⊥) → (((code_of s ≡ 3) ⊎ (code_of s ≡ 38)) → ⊥)
     → (code_of s ≡ 4 → ⊥) → (code_of s ≡ 5 → ⊥) → true ≡ allowed_in n t s
-unconditional n t s l h two pays-so four five =
+unconditional n t s l h two pays_so four five =
     freely (messages n t) (row_of (code_of s)).takes (arguments_of s) (row_of (code_of s)).deed (by (leb (code_of s) 1) refl)
   where
     three : code_of s ≡ 3 → ⊥
-    three e = pays-so (inl e)
+    three e = pays_so (inl e)
 
     last : code_of s ≡ 38 → ⊥
-    last e = pays-so (inr e)
+    last e = pays_so (inr e)
 
     by : (b : Bool) → leb (code_of s) 1 ≡ b → free (row_of (code_of s)).deed ≡ true
     by true e = neighbours is_free 0 1 true refl (code_of s) (omega arith) (omega (arith, leb-true (code_of s) 1 e))

@@ -62,8 +62,8 @@ passed_at f (k ∷ ks) (x ∷ xs) (suc i) h w e =
     passed_at f ks xs i (le_of_suc-le-suc h) (le_of_suc-le-suc w) (right_of (f k x) _ e)
 
 module _ {n : ℕ} {t row s : List ℕ} (ready : Ready n t row s) where
-  named-place : (i : ℕ) → i < 6 → placed n (get_or (row_of (code_of s)).takes i Argument.unused) (get_or s (i + 1) 0) ≡ true
-  named-place i h =
+  named_place : (i : ℕ) → i < 6 → placed n (get_or (row_of (code_of s)).takes i Argument.unused) (get_or s (i + 1) 0) ≡ true
+  named_place i h =
       subst (λ (x : ℕ). placed n (get_or (row_of (code_of s)).takes i Argument.unused) x ≡ true) (argument_at s i)
       (passed_at (placed n) (row_of (code_of s)).takes (arguments_of s) i
       (subst (λ (z : ℕ). i < z) (sym (six (code_of s) ready.known.low ready.known.high)) h)
@@ -73,19 +73,19 @@ module _ {n : ℕ} {t row s : List ℕ} (ready : Ready n t row s) where
   module _ (i : ℕ) {ks : List Argument} (e : (row_of (code_of s)).takes ≡ ks) (h : i < 6)
       (w : placed n (get_or ks i Argument.unused) (get_or s (i + 1) 0) ≡ placed n (Argument.at
       Rattle.rules.specs.Codes.h) (get_or s (i + 1) 0)) where
-    in-range : placed n (Argument.at Rattle.rules.specs.Codes.h) (get_or s (i + 1) 0) ≡ true
-    in-range =
-        sym w ∙ subst (λ (js : List Argument). placed n (get_or js i Argument.unused) (get_or s (i + 1) 0) ≡ true) e (named-place i h)
+    in_range_lem : placed n (Argument.at Rattle.rules.specs.Codes.h) (get_or s (i + 1) 0) ≡ true
+    in_range_lem =
+        sym w ∙ subst (λ (js : List Argument). placed n (get_or js i Argument.unused) (get_or s (i + 1) 0) ≡ true) e (named_place i h)
 
-    pub first-place : 1 ≤ get_or s (i + 1) 0
-    first-place = (bounds 1 (get_or s (i + 1) 0) n in-range).0
+    pub first_place : 1 ≤ get_or s (i + 1) 0
+    first_place = (bounds 1 (get_or s (i + 1) 0) n in_range_lem).0
 
-    pub last-place : get_or s (i + 1) 0 ≤ n
-    last-place = (bounds 1 (get_or s (i + 1) 0) n in-range).1
+    pub last_place : get_or s (i + 1) 0 ≤ n
+    last_place = (bounds 1 (get_or s (i + 1) 0) n in_range_lem).1
 
-    pub safe-place : (1 ≤ get_or s (i + 1) 0) × (get_or s (i + 1) 0 * message_width ≤ length t)
-    safe-place = (first-place, in_table ready last-place)
+    pub safe_place : (1 ≤ get_or s (i + 1) 0) × (get_or s (i + 1) 0 * message_width ≤ length t)
+    safe_place = (first_place, in_table ready last_place)
 
-    pub message-there : {x : Message} → x ≡ message_in t (record { 0 = get_or s (i + 1) 0 })
+    pub message_there : {x : Message} → x ≡ message_in t (record { 0 = get_or s (i + 1) 0 })
         → x ≡ message_at (messages n t) (record { 0 = get_or s (i + 1) 0 })
-    message-there p = p ∙ sym (message_at_lem n t (record { 0 = get_or s (i + 1) 0 }) first-place last-place)
+    message_there p = p ∙ sym (message_at_lem n t (record { 0 = get_or s (i + 1) 0 }) first_place last_place)

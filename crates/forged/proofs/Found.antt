@@ -14,7 +14,7 @@ use Rattle.messages.specs.Layout.{message_width}
 use Rattle.messages.specs.Parts.{Message}
 use Rattle.record.specs.Table.{Record, message_at, message_in, messages}
 use Rattle.messages.specs.declared.parts.Account.{Account}
-use Rattle.rules.proofs.Arguments.{not-given, passed-given}
+use Rattle.rules.proofs.Arguments.{not_given, passed_given}
 use Rattle.rules.specs.Codes.{Argument, Item}
 use Rattle.rules.specs.Forged.{copied, given, gives}
 use Rattle.rules.specs.Items.{placed, slip_in}
@@ -68,75 +68,75 @@ module _ {i : Item} {R : Record} {s : List ℕ} {m : Message} (offer : Offers i 
       by true l = absurd (omega arith)
       by false l = refl
 
-  pub whole-message : (length m ≡ 0 → ⊥) → length m ≡ message_width
-  whole-message h = by (gives (Argument.at i) (taken_by s)) offer.long
+  pub whole_message : (length m ≡ 0 → ⊥) → length m ≡ message_width
+  whole_message h = by (gives (Argument.at i) (taken_by s)) offer.long
     where
       by : (b : Bool) → length m ≡ cond b message_width 0 → length m ≡ message_width
       by true l = l
       by false l = absurd (h l)
 
-  pub read-there : {A : Type 0} (read : Message → A) (built : A) → (length m ≡ 0 → ⊥) → read m ≡ item_in i read built R s
+  pub read_there : {A : Type 0} (read : Message → A) (built : A) → (length m ≡ 0 → ⊥) → read m ≡ item_in i read built R s
   unfolding item_in
-  read-there read built h = by (gives (Argument.at i) (taken_by s)) offer.message
+  read_there read built h = by (gives (Argument.at i) (taken_by s)) offer.message
     where
       by : (b : Bool) → m ≡ cond b (copied R (taken_by s) (arguments_of s) i) [] → read m ≡ cond b (read (copied R (taken_by s) (arguments_of s) i)) built
       by true e = ap read e
       by false e = absurd (h (ap length e))
 
 module _ {n : ℕ} {t row s : List ℕ} (ready : Ready n t row s) where
-  pub place-passed : (k : Argument) → gives k (taken_by s) ≡ true → placed n k (given k (taken_by s) (arguments_of s)) ≡ true
-  place-passed k e = passed-given k (placed n) (taken_by s) (arguments_of s) ready.places e
+  pub place_passed : (k : Argument) → gives k (taken_by s) ≡ true → placed n k (given k (taken_by s) (arguments_of s)) ≡ true
+  place_passed k e = passed_given k (placed n) (taken_by s) (arguments_of s) ready.places e
 
   module _ (i : Item) (p : ℕ) (e : At p ≡ found_in (Argument.at i) (taken_by s) (arguments_of s)) where
-    given-place : placed n (Argument.at i) p ≡ true
-    given-place =
+    given_place : placed n (Argument.at i) p ≡ true
+    given_place =
         subst (λ (x : ℕ). placed n (Argument.at i) x ≡ true) (sym (found_number (Argument.at i) (taken_by s) (arguments_of s) p e))
-        (place-passed (Argument.at i) (found (Argument.at i) (taken_by s) (arguments_of s) p e))
+        (place_passed (Argument.at i) (found (Argument.at i) (taken_by s) (arguments_of s) p e))
 
-    first-place : 1 ≤ p
-    first-place = (bounds 1 p n given-place).0
+    first_place : 1 ≤ p
+    first_place = (bounds 1 p n given_place).0
 
-    last-place : p ≤ n
-    last-place = (bounds 1 p n given-place).1
+    last_place : p ≤ n
+    last_place = (bounds 1 p n given_place).1
 
     pub safe : (1 ≤ p) × (p * message_width ≤ length t)
-    safe = (first-place, in_table ready last-place)
+    safe = (first_place, in_table ready last_place)
 
-    pub found-message : {m : Message} → m ≡ message_in t (record { 0 = p }) → length m ≡ message_width → Offers i (messages n t) s m
+    pub found_message : {m : Message} → m ≡ message_in t (record { 0 = p }) → length m ≡ message_width → Offers i (messages n t) s m
     unfolding item_in
-    found-message q l =
+    found_message q l =
         let g = found (Argument.at i) (taken_by s) (arguments_of s) p e in
         record {
           message =
               q
               ∙ yes [] g
-              (sym (message_at_lem n t (record { 0 = p }) first-place last-place)
+              (sym (message_at_lem n t (record { 0 = p }) first_place last_place)
               ∙ ap (λ (x : ℕ). message_at (messages n t) (record { 0 = x })) (found_number (Argument.at i) (taken_by s) (arguments_of s) p e));
           long = l ∙ yes 0 g refl;
         }
 
   -- a, where it is not his own
   module _ (p : ℕ) (e : p ≡ number_in Argument.a s) (h : p ≡ 0 → ⊥) where
-    given-account : p ≤ n
+    given_account : p ≤ n
     unfolding number_in
-    given-account = by (gives Argument.a (taken_by s)) refl
+    given_account = by (gives Argument.a (taken_by s)) refl
       where
         by : (b : Bool) → gives Argument.a (taken_by s) ≡ b → p ≤ n
-        by true w = leb-true _ _ (subst (λ (x : ℕ). leb x n ≡ true) (sym e) (place-passed Argument.a w))
-        by false w = absurd (h (e ∙ not-given Argument.a (taken_by s) (arguments_of s) w))
+        by true w = leb-true _ _ (subst (λ (x : ℕ). leb x n ≡ true) (sym e) (place_passed Argument.a w))
+        by false w = absurd (h (e ∙ not_given Argument.a (taken_by s) (arguments_of s) w))
 
-    pub account-safe : (1 ≤ p) × (p * message_width ≤ length t)
-    account-safe = (positive p h, in_table ready given-account)
+    pub account_safe : (1 ≤ p) × (p * message_width ≤ length t)
+    account_safe = (positive p h, in_table ready given_account)
       where
         positive : (x : ℕ) → (x ≡ 0 → ⊥) → 1 ≤ x
         positive x f = omega arith
 
-    pub account-copied : (slip_in (message_in t (record { 0 = p }))).account ≡ account_in (messages n t) s
+    pub account_copied : (slip_in (message_in t (record { 0 = p }))).account ≡ account_in (messages n t) s
     unfolding account_in number_in
-    account-copied =
+    account_copied =
         no _ (ne_eqb _ 0 (λ (z : given Argument.a (taken_by s) (arguments_of s) ≡ 0). h (e ∙ z)))
         (ap (λ (x : Message). (slip_in x).account)
-        (sym (message_at_lem n t (record { 0 = p }) account-safe.0 given-account)
+        (sym (message_at_lem n t (record { 0 = p }) account_safe.0 given_account)
         ∙ ap (λ (x : ℕ). message_at (messages n t) (record { 0 = x })) e))
 
 pub account_own : (R : Record) (s : List ℕ) (p : ℕ) → p ≡ number_in Argument.a s → p ≡ 0 → ◌≡◌ {A = Account} (record { 0 = 0 }) (account_in R s)

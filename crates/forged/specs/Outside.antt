@@ -35,7 +35,7 @@ item_in i read built R s = item_or R (taken_by s) (arguments_of s) i read built
 -- a name in the code's table that stands for an item
 pub record NamesItem (name : ℕ) : Type 0 where
   pub item : Item
-  pub its-letter : item_letter item ≡ name
+  pub its_letter : item_letter item ≡ name
 
 -- m is the message that the step gives for an item, or nothing where it gives none
 pub record Offers (i : Item) (R : Record) (s : List ℕ) (m : Message) : Type 0 where

@@ -18,8 +18,8 @@ pub stepped_as : (n : ℕ) (t : List ℕ) (o : Outcome) (r told : Answer) (left 
 stepped_as n t o r told left w e =
     record {
       number = ap answer_number (sym e) ∙ w.number;
-      new-place = ap answer_place (sym e) ∙ w.place;
-      table-left = w.table;
+      new_place = ap answer_place (sym e) ∙ w.place;
+      table_left = w.table;
     }
 
 pub ran_as : (o : RanOf) (r told : Ran) (table bytes : List ℕ) → RunLeaves o r table bytes → r ≡ told
@@ -28,7 +28,7 @@ ran_as o r told table bytes w e =
     record {
       number = ap ran_number (sym e) ∙ w.number;
       count = ap ran_count (sym e) ∙ w.n;
-      table-left = w.table-left;
+      table_left = w.table_left;
       bytes_left = w.bytes_left;
     }
 
@@ -38,7 +38,7 @@ read_as_lem o t r told left w e =
     record {
       number = ap text_number (sym e) ∙ w.tells.number;
       said = ap text_answers (sym e) ∙ w.tells.answers;
-      how-many = ap text_count (sym e) ∙ w.tells.count;
+      how_many = ap text_count (sym e) ∙ w.tells.count;
       at = ap text_line (sym e) ∙ w.tells.line;
-      steps-left = w.table;
+      steps_left = w.table;
     }

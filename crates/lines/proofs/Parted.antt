@@ -118,7 +118,7 @@ module _ (t : Text) (at : ℕ) where
       ∙ sym (take_all (suc (before line_feed (drop at t))) (drop at t) (omega arith))
       ∙ sym (line_here t at h)
 
-  pub line-to : (end : ℕ) → at < length t → end ≡ at + before line_feed (drop at t) → take (end + 1 - at) (drop at t) ≡ line_at t at
-  line-to end h e =
+  pub line_to : (end : ℕ) → at < length t → end ≡ at + before line_feed (drop at t) → take (end + 1 - at) (drop at t) ≡ line_at t at
+  line_to end h e =
       let k : end + 1 - at ≡ suc (before line_feed (drop at t)) = omega arith in
       ap (λ (j : ℕ). take j (drop at t)) k ∙ sym (line_here t at h)

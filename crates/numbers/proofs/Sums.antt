@@ -33,15 +33,15 @@ grows i sum d h k = subst (λ (p : ℕ). sum * 10 + d < p) (sym (ap (λ (j : ℕ
 
 module _ (xs : Text) (sum i : ℕ) (reading : Reading xs sum i) (more : i < length xs) where
   -- a digit, and those after it
-  pub split-digits : (is_digit (get_or xs i 0) && all is_digit (drop (i + 1) xs)) ≡ all is_digit xs
-  split-digits = ap (all is_digit) (sym (from xs i more)) ∙ reading.digits
+  pub split_digits : (is_digit (get_or xs i 0) && all is_digit (drop (i + 1) xs)) ≡ all is_digit xs
+  split_digits = ap (all is_digit) (sym (from xs i more)) ∙ reading.digits
 
   pub turn : between digit0 (get_or xs i 0) (digit0 + 9) ≡ true → Reading xs (sum * 10 + (get_or xs i 0 - digit0)) (i + 1)
   turn d =
       let x : ℕ = get_or xs i 0 in
       record {
         upto = omega arith;
-        digits = skip d refl ∙ split-digits;
+        digits = skip d refl ∙ split_digits;
         finish = ap (value_from sum) (sym (from xs i more)) ∙ reading.finish;
         small = grows i sum (x - digit0) reading.small (at_most_9 x d);
       }

@@ -4,7 +4,7 @@ use Rattle.std.proofs.lemmas.Bool.{lt-leb}
 use Rattle.std.proofs.Math.Bool.{and-false}
 use Rattle.messages.proofs.Chain.{last, skip}
 use Rattle.messages.specs.Tests.{all, between, every}
-use Rattle.numbers.proofs.Sums.{Reading, split-digits}
+use Rattle.numbers.proofs.Sums.{Reading, split_digits}
 use Rattle.numbers.specs.Number.{number_in}
 use Rattle.lines.specs.Lines.{Text}
 use Rattle.numbers.specs.Digits.{is_digit, is_number, most_digits, most_number, no_needless0, value_from, value_of}
@@ -28,7 +28,7 @@ module _ (xs : Text) where
     pub no_digit : i < length xs → is_digit (get_or xs i 0) ≡ false → Unreadable ≡ number_in xs
     no_digit h e =
         unreadable 2
-        (sym (split-digits xs sum i reading h) ∙ ap (λ (b : Bool). b && all is_digit (drop (i + 1) xs)) e)
+        (sym (split_digits xs sum i reading h) ∙ ap (λ (b : Bool). b && all is_digit (drop (i + 1) xs)) e)
 
     pub value_read_lem : length xs ≤ i → sum ≡ value_of xs
     value_read_lem h = sym (ap (value_from sum) (drop_of_length-le xs {i = i} h)) ∙ reading.finish
@@ -36,9 +36,9 @@ module _ (xs : Text) where
     pub too_much : length xs ≤ i → most_number < sum → Unreadable ≡ number_in xs
     too_much h k = unreadable 3 (lt-leb (value_of xs) most_number (omega (arith, value_read_lem h)))
 
-    pub is-number : length xs ≤ i → between 1 (length xs) most_digits ≡ true → no_needless0 xs ≡ true → sum ≤ most_number → Is sum ≡ number_in xs
+    pub is_number_lem : length xs ≤ i → between 1 (length xs) most_digits ≡ true → no_needless0 xs ≡ true → sum ≤ most_number → Is sum ≡ number_in xs
     unfolding is_number
-    is-number h a b k =
+    is_number_lem h a b k =
         let v = value_read_lem h in
         let d : all is_digit xs ≡ true = sym reading.digits ∙ ap (all is_digit) (drop_of_length-le xs {i = i} h) in
         let passes : true ≡ every tests = skip a (skip b (skip d (last (sym (le-leb (value_of xs) most_number (omega arith)))))) in

@@ -32,9 +32,9 @@ module _ (n : ℕ) (t : List ℕ) (p : Place) where
   house : Bool
   house = house_reply (message_at (messages n t) p)
 
-  pub no-reply-at : {r : Reply} (k : ℕ) → (k ≡ 0 → ⊥) → (r.refusal ≡ k) × (r.earlier ≡ 0) → k ≡ cond (between 1 p.0 n) (cond (house_reply (message_at (messages n t) p)) 0 5) 4
+  pub no_reply_at : {r : Reply} (k : ℕ) → (k ≡ 0 → ⊥) → (r.refusal ≡ k) × (r.earlier ≡ 0) → k ≡ cond (between 1 p.0 n) (cond (house_reply (message_at (messages n t) p)) 0 5) 4
       → ReplyAt n t p r
-  no-reply-at {r} k h e q =
+  no_reply_at {r} k h e q =
       record {
         refusal = e.0 ∙ q;
         within = omega (arith, e.1);

@@ -10,7 +10,7 @@ use lib.Seq.{take_at}
 use Rattle.record.proofs.Cut.{length_cut}
 use Rattle.record.proofs.Whole.{most}
 use Rattle.record.specs.Table.{Record, messages, most_room, room_of, whole}
-use Rattle.rules.proofs.Runs.{left_is, verdicts-length}
+use Rattle.rules.proofs.Runs.{left_is, verdicts_length}
 use Rattle.rules.specs.Run.{played, step_count, step_width, steps_of, verdicts}
 use Rattle.runs.specs.Ran.{Plays}
 use Rattle.results.proofs.Told.{rows_told}
@@ -27,12 +27,12 @@ module _ (answers : ℕ) (t xs bytes : List ℕ) (n : ℕ) (table left : List �
   numbers : take (step_count xs) left ≡ verdicts answers (room_of t) [] (steps_of xs)
   numbers =
       let said = verdicts answers (room_of t) [] (steps_of xs) in
-      ap (take (step_count xs)) plays.verdicts-left
+      ap (take (step_count xs)) plays.verdicts_left
       ∙ take_at said (drop (length said) bytes) (step_count xs)
-      (verdicts-length answers (room_of t) [] (steps_of xs) ∙ length_cut step_width (step_count xs) xs)
+      (verdicts_length answers (room_of t) [] (steps_of xs) ∙ length_cut step_width (step_count xs) xs)
 
   record_is : messages n table ≡ played answers (room_of t) [] (steps_of xs)
-  record_is = ap₂ messages plays.counted plays.record-left ∙ left_is answers t xs bytes
+  record_is = ap₂ messages plays.counted plays.table_left ∙ left_is answers t xs bytes
 
   pub printed : step_lines (take (step_count xs) left) ++ reply_lines (messages n table) ≡ results answers (room_of t) (steps_of xs)
   unfolding results

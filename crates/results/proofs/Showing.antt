@@ -111,11 +111,11 @@ module _ (text t left : List ℕ) (answers count : ℕ) (w : Leaves (reading tex
   as_many : step_count (take (count * step_width) left) ≡ length ss
   as_many = ap (λ (xs : List ℕ). length xs / step_width) taken ∙ omega (arith, long, counted)
 
-  pub few-steps : step_count (take (count * step_width) left) ≤ most_steps
-  few-steps = omega (arith, as_many, counted, w.tells.few)
+  pub few_steps : step_count (take (count * step_width) left) ≤ most_steps
+  few_steps = omega (arith, as_many, counted, w.tells.few)
 
-  pub steps-read : steps_of (take (count * step_width) left) ≡ ss
-  steps-read =
+  pub steps_read : steps_of (take (count * step_width) left) ≡ ss
+  steps_read =
       ap₂ (cut step_width) as_many (taken ∙ sym (append-nil (flat ss)))
       ∙ cut_flat step_width ss [] (read_long (most_steps * step_width) text)
 
@@ -130,7 +130,7 @@ shows {text} {t} {out} {table} {left} {r} {most} o e put kept h =
     record {
       count = put.next ∙ zero-add (length bs) ∙ ap length same;
       printed = put.table ∙ ap (λ (k : ℕ). bs ++ drop k out) (zero-add (length bs)) ∙ ap (λ (xs : Text). over xs out) same;
-      record-left = kept ∙ ap (record_left t) e;
+      table_left = kept ∙ ap (record_left t) e;
       within = inside;
       part = sym (length-take-le r left inside);
     }
@@ -144,7 +144,7 @@ pub shows_played : {text t out table left steps : List ℕ} {r answers count : �
 shows_played {text} {t} {out} {table} {left} {steps} {r} {answers} {count} l fits w put kept =
     let room : room_of t ≡ most_room = omega arith in
     let ss = steps_in (reading text) in
-    let read : steps_of (take (count * step_width) steps) ≡ ss = steps-read text blank steps answers count w in
+    let read : steps_of (take (count * step_width) steps) ≡ ss = steps_read text blank steps answers count w in
     shows (says answers ss) (is_says (reading text) answers count w.tells).0
     (subst (λ (bs : Text). Put out 0 bs most_printed left r) (ap₂ (results answers) room read) put)
     (kept ∙ ap₂ (λ (k : ℕ) (zs : List Step). over (flat (played answers k [] zs)) t) room read)

@@ -4,7 +4,7 @@ use mathlib.Core.Path.{◌≡◌, ◌∙◌, refl, sym, ap, ap₂}
 use Prim.Native.Nat.{ℕ, ◌+◌}
 use lib.ListN.{length, length-append}
 use Rattle.record.specs.Table.{Record}
-use Rattle.rules.proofs.Accepted.{never-zero}
+use Rattle.rules.proofs.Accepted.{never_zero}
 use Rattle.rules.specs.Run.{verdicts}
 use Rattle.rules.specs.Said.{step_rows}
 use Rattle.rules.specs.Step.{Outcome, Step, accepted, judge, number_of, place_of, record_after, refused}
@@ -25,7 +25,7 @@ unfolding rows_by verdicts step_rows
 rows_told answers room told R [] = refl
 rows_told answers room told R (s ∷ ss) =
     let o = judge answers room R s in
-    let h = never-zero answers room R s in
+    let h = never_zero answers room R s in
     let after = record_after R o in
     ap₂ (λ (p : ℕ) (rows : List (List ℕ)). ((told + 1) ∷ number_of o ∷ p ∷ []) ∷ rows) (place_by_lem (length R) o h)
     (ap (λ (n : ℕ). rows_by (told + 1) n (verdicts answers room after ss)) (count_by_lem R o h) ∙ rows_told answers room (told + 1) after ss)

@@ -13,10 +13,10 @@ record_left t (unreadable at) = t
 record_left t too_long = t
 
 -- r bytes stand at the front of those lent; later ones stay
-pub record Shows (text t out : List ℕ) (r : ℕ) (table out-left : List ℕ) : Type 0 where
+pub record Shows (text t out : List ℕ) (r : ℕ) (table out_left : List ℕ) : Type 0 where
   pub count : r ≡ length (output most_room text)
-  pub printed : out-left ≡ over (output most_room text) out
-  pub record-left : table ≡ record_left t (reading text)
+  pub printed : out_left ≡ over (output most_room text) out
+  pub table_left : table ≡ record_left t (reading text)
   -- so they are a part of those lent, as a caller wants to hear it that lends just them on
-  pub within : r ≤ length out-left
-  pub part : r ≡ length (take r out-left)
+  pub within : r ≤ length out_left
+  pub part : r ≡ length (take r out_left)

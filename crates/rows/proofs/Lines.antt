@@ -62,10 +62,10 @@ module _ (t : List ℕ) (p : ℕ) {x : Message} (named : x ≡ message_in t (rec
   no_line e =
       ap (λ (b : Bool). cond b (reply_line (reply_row (messages p t) p (reply_mark x))) []) (sym e) ∙ ap (line_if (messages p t) p) named
 
-  pub its-line : (signed : ReplySigned) {report : ℕ} → house_reply x ≡ true → signed ≡ reply_signed_in x → report ≡ report_on (messages p t) signed.mark
+  pub its_line : (signed : ReplySigned) {report : ℕ} → house_reply x ≡ true → signed ≡ reply_signed_in x → report ≡ report_on (messages p t) signed.mark
       → reply_line ((p + 1) ∷ signed.mark.seller.0 ∷ signed.mark.buyer.0 ∷ report ∷ []) ≡ line_after t p
   unfolding line_if
-  its-line signed e s r =
+  its_line signed e s r =
       ap (λ (k : ℕ). reply_line ((p + 1) ∷ signed.mark.seller.0 ∷ signed.mark.buyer.0 ∷ k ∷ [])) r
       ∙ ap (λ (z : ReplySigned). reply_line (reply_row (messages p t) p z.mark)) s
       ∙ ap (λ (b : Bool). cond b (reply_line (reply_row (messages p t) p (reply_mark x))) []) (sym e)

@@ -29,22 +29,22 @@ pub record Accepted (answers room : ℕ) (R : Record) (s : Step) (x : Message) :
   pub message : x ≡ added R (row_of (code_of s)).takes (arguments_of s) answers (row_of (code_of s)).deed
 
 module _ (answers room : ℕ) (R : Record) where
-  row-passed : (coded : Bool) (y : Row) (xs : List ℕ) (x : Message) → judge_row answers room R coded y xs ≡ accepted x
+  row_passed : (coded : Bool) (y : Row) (xs : List ℕ) (x : Message) → judge_row answers room R coded y xs ≡ accepted x
       → Open (gates room R coded y xs) × (accepted (added R y.takes xs answers y.deed) ≡ accepted x)
   unfolding judge_row
-  row-passed coded y xs x e =
+  row_passed coded y xs x e =
       all_open refused (accepted (added R y.takes xs answers y.deed)) (λ (o : Outcome). o ≡ accepted x)
       (λ k l q. let z : ◌≡◌ {A = ℕ} 0 1 = cc in omega arith) (gates room R coded y xs) refl e
 
-  row-passes : (coded : Bool) (y : Row) (xs : List ℕ) → Open (gates room R coded y xs)
+  row_passes : (coded : Bool) (y : Row) (xs : List ℕ) → Open (gates room R coded y xs)
       → judge_row answers room R coded y xs ≡ accepted (added R y.takes xs answers y.deed)
   unfolding judge_row
-  row-passes coded y xs o = passes refused (accepted (added R y.takes xs answers y.deed)) (gates room R coded y xs) o
+  row_passes coded y xs o = passes refused (accepted (added R y.takes xs answers y.deed)) (gates room R coded y xs) o
 
   -- no step is refused with 0
-  pub never-zero : (s : Step) → judge answers room R s ≡ refused 0 → ⊥
+  pub never_zero : (s : Step) → judge answers room R s ≡ refused 0 → ⊥
   unfolding judge judge_row
-  never-zero s e =
+  never_zero s e =
       let y = row_of (code_of s) in
       let xs = arguments_of s in
       let h =
@@ -55,10 +55,10 @@ module _ (answers room : ℕ) (R : Record) where
       omega arith
 
   module _ (s : Step) (x : Message) where
-    pub is-accepted : judge answers room R s ≡ accepted x → Accepted answers room R s x
+    pub is_accepted : judge answers room R s ≡ accepted x → Accepted answers room R s x
     unfolding judge
-    is-accepted e =
-        let h = row-passed (known (code_of s)) (row_of (code_of s)) (arguments_of s) x e in
+    is_accepted e =
+        let h = row_passed (known (code_of s)) (row_of (code_of s)) (arguments_of s) x e in
         record {
           coded = h.0.0;
           passed =
@@ -76,6 +76,6 @@ module _ (answers room : ℕ) (R : Record) where
     unfolding judge
     accepts a =
         let p = a.passed in
-        row-passes (known (code_of s)) (row_of (code_of s)) (arguments_of s)
+        row_passes (known (code_of s)) (row_of (code_of s)) (arguments_of s)
         (a.coded, (p.ranged, (p.places, (p.held, (p.claimed, (lt-ltb (length R) room p.roomy, tt))))))
         ∙ ap accepted (sym a.message)

@@ -44,10 +44,10 @@ its_seller_signed x = record { signer = x.seller; mark = x; slip = its_slip x }
 record Checked (x : Mark) (Q : Message) : Type 0 where
   account : x.hashed.account.0 ≡ x.buyer.0
   seller : x.seller ≡ seller_at Q source
-  to-house : house ≡ gateway_at Q destination
+  to_house : house ≡ gateway_at Q destination
   slip : its_slip x ≡ slip_at Q request_slip
-  seller-signed : its_seller_signed x ≡ request_signed_at Q request_signed
-  buyer-signed : its_buyer_signed x ≡ buyer_signed_at Q request_buyer_signed
+  seller_signed : its_seller_signed x ≡ request_signed_at Q request_signed
+  buyer_signed : its_buyer_signed x ≡ buyer_signed_at Q request_buyer_signed
 
 checked : (Q : Message) → all holds (reply_claims Q) ≡ true → Checked (mark_at Q body) Q
 checked Q e =
@@ -55,30 +55,30 @@ checked Q e =
     let x = mark_at Q body in
     let y = slip_at Q request_slip in
     let f = facts (reply_claims Q) e in
-    let to-house : gateway_at Q destination ≡ house = as_part gateway_at f.0 in
+    let to_house : gateway_at Q destination ≡ house = as_part gateway_at f.0 in
     let key : house ≡ y.key = sym (as_part gateway_at f.1.0) in
-    let slip-mark : x ≡ y.mark = sym (as_part mark_at f.1.1.0) in
-    let from-slip : x ≡ rebuilt S y = as_part mark_at f.1.1.1.0 in
+    let slip_mark : x ≡ y.mark = sym (as_part mark_at f.1.1.0) in
+    let from_slip : x ≡ rebuilt S y = as_part mark_at f.1.1.1.0 in
     let slip : its_slip x ≡ y =
-    λ k. record { key = key k; mark = slip-mark k; account = (from-slip k).hashed.account; drawn = (from-slip k).hashed.drawn }
+    λ k. record { key = key k; mark = slip_mark k; account = (from_slip k).hashed.account; drawn = (from_slip k).hashed.drawn }
     in
-    let seller-signer : S ≡ seller_at Q request_signed = sym (as_part seller_at f.1.1.1.1.0) in
-    let seller-mark : x ≡ mark_at Q (request_signed + 1) = sym (as_part mark_at f.1.1.1.1.1.0) in
-    let seller-slip : y ≡ slip_at Q (request_signed + 1 + mark_width) = sym (as_part slip_at f.1.1.1.1.1.1.0) in
-    let buyer-signer : owner_of y.account ≡ buyer_at Q request_buyer_signed = sym (as_part buyer_at f.1.1.1.1.1.1.1.0) in
-    let buyer-slip : y ≡ slip_at Q (request_buyer_signed + 1) = sym (as_part slip_at f.1.1.1.1.1.1.1.1.0) in
-    let buyer-mark : x ≡ mark_at Q (request_buyer_signed + 1 + slip_width) = sym (as_part mark_at f.1.1.1.1.1.1.1.1.1.0) in
-    let seller : x.seller ≡ S = ap (λ (z : Mark). z.seller) from-slip in
-    let buyer : x.buyer ≡ owner_of y.account = ap (λ (z : Mark). z.buyer) from-slip in
+    let seller_signer : S ≡ seller_at Q request_signed = sym (as_part seller_at f.1.1.1.1.0) in
+    let seller_mark : x ≡ mark_at Q (request_signed + 1) = sym (as_part mark_at f.1.1.1.1.1.0) in
+    let seller_slip : y ≡ slip_at Q (request_signed + 1 + mark_width) = sym (as_part slip_at f.1.1.1.1.1.1.0) in
+    let buyer_signer : owner_of y.account ≡ buyer_at Q request_buyer_signed = sym (as_part buyer_at f.1.1.1.1.1.1.1.0) in
+    let buyer_slip : y ≡ slip_at Q (request_buyer_signed + 1) = sym (as_part slip_at f.1.1.1.1.1.1.1.1.0) in
+    let buyer_mark : x ≡ mark_at Q (request_buyer_signed + 1 + slip_width) = sym (as_part mark_at f.1.1.1.1.1.1.1.1.1.0) in
+    let seller : x.seller ≡ S = ap (λ (z : Mark). z.seller) from_slip in
+    let buyer : x.buyer ≡ owner_of y.account = ap (λ (z : Mark). z.buyer) from_slip in
     record {
-      account = ap (λ (z : Mark). z.hashed.account.0) from-slip ∙ ap (λ (b : Buyer). b.0) (sym buyer);
+      account = ap (λ (z : Mark). z.hashed.account.0) from_slip ∙ ap (λ (b : Buyer). b.0) (sym buyer);
       seller = seller;
-      to-house = sym to-house;
+      to_house = sym to_house;
       slip = slip;
-      seller-signed =
-          λ k. record { signer = (seller ∙ seller-signer) k; mark = seller-mark k; slip = (slip ∙ seller-slip) k };
-      buyer-signed =
-          λ k. record { signer = (buyer ∙ buyer-signer) k; slip = (slip ∙ buyer-slip) k; mark = buyer-mark k };
+      seller_signed =
+          λ k. record { signer = (seller ∙ seller_signer) k; mark = seller_mark k; slip = (slip ∙ seller_slip) k };
+      buyer_signed =
+          λ k. record { signer = (buyer ∙ buyer_signer) k; slip = (slip ∙ buyer_slip) k; mark = buyer_mark k };
     }
 
 module _ (R : Record) (sound : AllSound R) where
@@ -86,18 +86,18 @@ module _ (R : Record) (sound : AllSound R) where
   own : (k : Kind) (parts : List ℕ) (by from to : ℕ) → from ≡ 0 → laid k by from to parts ∈ R → laid k from from to parts ∈ R
   own k parts by from to z m = Memᴰ.cast (λ i. laid k ((z ∙ sym ((sound _ m).sent z)) i) from to parts) m
 
-  own-request : (Q : Message) → Checked (mark_at Q body) Q → (mark_at Q body).seller.0 ≡ 0 → Q ∈ R → Q ≡ relaid AuthRequest Q
+  own_request : (Q : Message) → Checked (mark_at Q body) Q → (mark_at Q body).seller.0 ≡ 0 → Q ∈ R → Q ≡ relaid AuthRequest Q
       → its_request (mark_at Q body) ∈ R
-  own-request Q c z m as-laid =
+  own_request Q c z m as_laid =
       Memᴰ.cast
       (λ k.
-      an_auth_request (c.seller k) (c.seller k) (c.to-house k) (mark_at Q body) (c.slip k) (c.seller-signed k) (c.buyer-signed k))
+      an_auth_request (c.seller k) (c.seller k) (c.to_house k) (mark_at Q body) (c.slip k) (c.seller_signed k) (c.buyer_signed k))
       (own AuthRequest
       (mark_numbers (mark_at Q body)
       ++ slip_numbers (slip_at Q request_slip)
       ++ request_signed_numbers (request_signed_at Q request_signed)
       ++ buyer_signed_numbers (buyer_signed_at Q request_buyer_signed))
-      _ _ _ (ap (λ (s : Seller). s.0) (sym c.seller) ∙ z) (Memᴰ.cast (sym as-laid) m))
+      _ _ _ (ap (λ (s : Seller). s.0) (sym c.seller) ∙ z) (Memᴰ.cast (sym as_laid) m))
 
   -- the four cases: both are the outsider, which is not asked about; the buyer is; the seller is; neither is
   four : (x : Mark) → ¬ BothOutside x → x.hashed.account.0 ≡ x.buyer.0 → BuyerVouched R (its_buyer_signed x)
@@ -105,38 +105,38 @@ module _ (R : Record) (sound : AllSound R) where
       → eqb x.seller.0 0 ≡ s → Agreed x R
   four x n a buyer seller request true true eb es = absurd (n (eqb-true x.buyer.0 0 eb, eqb-true x.seller.0 0 es))
   four x n a buyer seller request true false eb es =
-      let no-b = eqb-true x.buyer.0 0 eb in
+      let no_b = eqb-true x.buyer.0 0 eb in
       let s = seller (eqb-false x.seller.0 0 es) in
       record {
         account = a;
-        initiate = own Initiate (hashed_numbers x.hashed) _ _ _ no-b s.initiate.1;
+        initiate = own Initiate (hashed_numbers x.hashed) _ _ _ no_b s.initiate.1;
         invoice = s.invoice;
-        payment = own Payment (slip_numbers (its_slip x) ++ buyer_signed_numbers (its_buyer_signed x)) _ _ _ no-b s.payment.1;
+        payment = own Payment (slip_numbers (its_slip x) ++ buyer_signed_numbers (its_buyer_signed x)) _ _ _ no_b s.payment.1;
         request = s.request;
       }
   four x n a buyer seller request false true eb es =
-      let no-s = eqb-true x.seller.0 0 es in
+      let no_s = eqb-true x.seller.0 0 es in
       let b = buyer (eqb-false x.buyer.0 0 eb) in
       record {
         account = a;
         initiate = b.initiate;
-        invoice = own Invoice (mark_numbers x ++ invoice_signed_numbers (record { signer = x.seller; mark = x })) _ _ _ no-s b.invoice.1;
+        invoice = own Invoice (mark_numbers x ++ invoice_signed_numbers (record { signer = x.seller; mark = x })) _ _ _ no_s b.invoice.1;
         payment = b.payment;
-        request = request no-s;
+        request = request no_s;
       }
   four x n a buyer seller request false false eb es =
       let b = buyer (eqb-false x.buyer.0 0 eb) in
       let s = seller (eqb-false x.seller.0 0 es) in
       record { account = a; initiate = b.initiate; invoice = s.invoice; payment = b.payment; request = s.request }
 
-  request-agreed : (Q : Message) → Q ∈ R → is_kind AuthRequest Q ≡ true → all holds (reply_claims Q) ≡ true → ¬ BothOutside (mark_at Q body)
+  request_agreed : (Q : Message) → Q ∈ R → is_kind AuthRequest Q ≡ true → all holds (reply_claims Q) ≡ true → ¬ BothOutside (mark_at Q body)
       → Agreed (mark_at Q body) R
-  request-agreed Q m kind claims n =
+  request_agreed Q m kind claims n =
       let x = mark_at Q body in
       let c = checked Q claims in
       let v = sound_as R AuthRequest Q (sound Q m) kind in
-      four x n c.account (subst (BuyerVouched R) (sym c.buyer-signed) v.1.0)
-      (subst (SellerVouched R) (sym c.seller-signed) v.1.1) (λ z. own-request Q c z m v.0) (eqb x.buyer.0 0)
+      four x n c.account (subst (BuyerVouched R) (sym c.buyer_signed) v.1.0)
+      (subst (SellerVouched R) (sym c.seller_signed) v.1.1) (λ z. own_request Q c z m v.0) (eqb x.buyer.0 0)
       (eqb x.seller.0 0) refl refl
 
 -- of a message that a step adds to a reached record: it is a house reply only if step 5 made it
@@ -144,19 +144,19 @@ abbrev AgreedOn : Record → Message → Type 0
 AgreedOn R x = house_reply x ≡ true → ¬ BothOutside (reply_mark x) → Agreed (reply_mark x) R
 
 module _ (answers room : ℕ) (R : Record) (ks : List Argument) (xs : List ℕ) (sound : AllSound R) where
-  deed-agreed : (d : Deed) → Taken room R d ks xs → AgreedOn R (added R ks xs answers d)
-  deed-agreed starts t h n = absurd (false≢true h)
-  deed-agreed invoices t h n = absurd (false≢true h)
-  deed-agreed (pays key) t h n = absurd (false≢true h)
-  deed-agreed asks t h n = absurd (false≢true h)
-  deed-agreed replies t h n =
-      let q = named t AuthRequest t.complete-row in
-      request-agreed R sound (the_request R ks xs) q.0 q.1 t.passed.claimed n
-  deed-agreed (forges Initiate) t h n = absurd (false≢true h)
-  deed-agreed (forges Invoice) t h n = absurd (false≢true h)
-  deed-agreed (forges Payment) t h n = absurd (false≢true h)
-  deed-agreed (forges AuthRequest) t h n = absurd (false≢true h)
-  deed-agreed (forges AuthResponse) t h n = absurd (false≢true h)
+  deed_agreed : (d : Deed) → Taken room R d ks xs → AgreedOn R (added R ks xs answers d)
+  deed_agreed starts t h n = absurd (false≢true h)
+  deed_agreed invoices t h n = absurd (false≢true h)
+  deed_agreed (pays key) t h n = absurd (false≢true h)
+  deed_agreed asks t h n = absurd (false≢true h)
+  deed_agreed replies t h n =
+      let q = named t AuthRequest t.row_is_complete in
+      request_agreed R sound (the_request R ks xs) q.0 q.1 t.passed.claimed n
+  deed_agreed (forges Initiate) t h n = absurd (false≢true h)
+  deed_agreed (forges Invoice) t h n = absurd (false≢true h)
+  deed_agreed (forges Payment) t h n = absurd (false≢true h)
+  deed_agreed (forges AuthRequest) t h n = absurd (false≢true h)
+  deed_agreed (forges AuthResponse) t h n = absurd (false≢true h)
 
 -- a reply entered the record by a step, on the messages earlier than it, which are a reached record too
 pub agreement : Agreement
@@ -164,4 +164,4 @@ agreement room R r p h =
     let e = history room R r (p.0 - 1) (omega (arith, bounds 1 p.0 (length R) h.inside)) in
     let answers = e.call.answers in
     by_deed answers room (earlier R p) e.call.step (message_at R p) (AgreedOn (earlier R p)) e.entered
-    (λ d ks xs. deed-agreed answers room (earlier R p) ks xs (reached_sound room (earlier R p) e.reached) d) h.reply
+    (λ d ks xs. deed_agreed answers room (earlier R p) ks xs (reached_sound room (earlier R p) e.reached) d) h.reply

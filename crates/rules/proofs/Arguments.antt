@@ -66,28 +66,28 @@ same_letter j k e =
 
 module _ (k : Argument) where
   -- one that is left off
-  none-given : (ks : List Argument) → given k ks [] ≡ 0
-  none-given [] = refl
-  none-given (j ∷ ks) = refl
+  none_given : (ks : List Argument) → given k ks [] ≡ 0
+  none_given [] = refl
+  none_given (j ∷ ks) = refl
 
-  pub not-given : (ks : List Argument) (xs : List ℕ) → gives k ks ≡ false → given k ks xs ≡ 0
-  not-given [] xs g = refl
-  not-given (j ∷ ks) [] g = refl
-  not-given (j ∷ ks) (x ∷ xs) g =
+  pub not_given : (ks : List Argument) (xs : List ℕ) → gives k ks ≡ false → given k ks xs ≡ 0
+  not_given [] xs g = refl
+  not_given (j ∷ ks) [] g = refl
+  not_given (j ∷ ks) (x ∷ xs) g =
       picked (λ (n : ℕ). n ≡ 0) (eqb (letter j) (letter k)) x (given k ks xs)
-      (λ h. absurd (true≢false (sym (ap (◌|| gives k ks) h) ∙ g))) (λ h. not-given ks xs (sym (ap (◌|| gives k ks) h) ∙ g))
+      (λ h. absurd (true≢false (sym (ap (◌|| gives k ks) h) ∙ g))) (λ h. not_given ks xs (sym (ap (◌|| gives k ks) h) ∙ g))
 
   -- the argument asked for is the first that the row names, or it stands further on
   module _ (f : Argument → ℕ → Bool) where
-    is-first : (j : Argument) (x : ℕ) → f j x ≡ true → eqb (letter j) (letter k) ≡ true → f k x ≡ true
-    is-first j x e h = subst (λ (i : Argument). f i x ≡ true) (same_letter j k h) e
+    is_first : (j : Argument) (x : ℕ) → f j x ≡ true → eqb (letter j) (letter k) ≡ true → f k x ≡ true
+    is_first j x e h = subst (λ (i : Argument). f i x ≡ true) (same_letter j k h) e
 
-    pub passed-given : (ks : List Argument) (xs : List ℕ) → each_argument f ks xs ≡ true → gives k ks ≡ true → f k (given k ks xs) ≡ true
-    passed-given [] xs e g = absurd (false≢true g)
-    passed-given (j ∷ ks) [] e g =
-        ⊎_elim (is-first j 0 (left_of _ _ e))
-        (λ m. subst (λ (n : ℕ). f k n ≡ true) (none-given ks) (passed-given ks [] (right_of (f j 0) _ e) m))
+    pub passed_given : (ks : List Argument) (xs : List ℕ) → each_argument f ks xs ≡ true → gives k ks ≡ true → f k (given k ks xs) ≡ true
+    passed_given [] xs e g = absurd (false≢true g)
+    passed_given (j ∷ ks) [] e g =
+        ⊎_elim (is_first j 0 (left_of _ _ e))
+        (λ m. subst (λ (n : ℕ). f k n ≡ true) (none_given ks) (passed_given ks [] (right_of (f j 0) _ e) m))
         (either (eqb (letter j) (letter k)) (gives k ks) g)
-    passed-given (j ∷ ks) (x ∷ xs) e g =
-        picked (λ (n : ℕ). f k n ≡ true) (eqb (letter j) (letter k)) x (given k ks xs) (is-first j x (left_of _ _ e))
-        (λ h. passed-given ks xs (right_of (f j x) _ e) (other (eqb (letter j) (letter k)) (gives k ks) g h))
+    passed_given (j ∷ ks) (x ∷ xs) e g =
+        picked (λ (n : ℕ). f k n ≡ true) (eqb (letter j) (letter k)) x (given k ks xs) (is_first j x (left_of _ _ e))
+        (λ h. passed_given ks xs (right_of (f j x) _ e) (other (eqb (letter j) (letter k)) (gives k ks) g h))

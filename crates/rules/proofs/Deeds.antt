@@ -13,8 +13,8 @@ use Rattle.messages.specs.Parts.{Message}
 use Rattle.messages.specs.declared.parts.Gateway.{Gateway}
 use Rattle.record.specs.Table.{Record, message_at}
 use Rattle.messages.specs.Tests.{all, between}
-use Rattle.rules.proofs.Accepted.{Passed, is-accepted}
-use Rattle.rules.proofs.Arguments.{passed-given}
+use Rattle.rules.proofs.Accepted.{Passed, is_accepted}
+use Rattle.rules.proofs.Arguments.{passed_given}
 use Rattle.rules.proofs.Tests.{all_member, member_at, picked}
 use Rattle.rules.specs.Agreed.{◌∈◌}
 use Rattle.rules.specs.Codes.{Argument, Deed, Item, Row, asks, forges, invoices, known, pays, replies, row_of, row, rows, starts}
@@ -71,16 +71,16 @@ row_complete code e =
 -- what is known of an accepted step
 pub record Taken (room : ℕ) (R : Record) (d : Deed) (ks : List Argument) (xs : List ℕ) : Type 0 where
   pub passed : Passed room R d ks xs
-  pub complete-row : complete ks d ≡ true
+  pub row_is_complete : complete ks d ≡ true
 
 -- what holds of the message of every deed holds of the message that an accepted step adds
 pub by_deed : (answers room : ℕ) (R : Record) (s : Step) (x : Message) (Q : Message → Type 0) → judge answers room R s ≡ accepted x
     → ((d : Deed) (ks : List Argument) (xs : List ℕ) → Taken room R d ks xs → Q (added R ks xs answers d)) → Q x
-by_deed answers room R s x Q e each-deed =
-    let a = is-accepted answers room R s x e in
+by_deed answers room R s x Q e each_deed =
+    let a = is_accepted answers room R s x e in
     let y = row_of (code_of s) in
     subst Q (sym a.message)
-    (each-deed y.deed y.takes (arguments_of s) (record { passed = a.passed; complete-row = row_complete (code_of s) a.coded }))
+    (each_deed y.deed y.takes (arguments_of s) (record { passed = a.passed; row_is_complete = row_complete (code_of s) a.coded }))
 
 pub member_place : (R : Record) (k : ℕ) → between 1 k (length R) ≡ true → message_at R (record { 0 = k }) ∈ R
 member_place R k e = member_at R [] (k - 1) (omega (arith, bounds 1 k (length R) e))
@@ -88,15 +88,15 @@ member_place R k e = member_at R [] (k - 1) (omega (arith, bounds 1 k (length R)
 module _ {room : ℕ} {R : Record} {d : Deed} {ks : List Argument} {xs : List ℕ} (t : Taken room R d ks xs) where
   -- an argument that the row has, in its range
   pub ranged : (k : Argument) → gives k ks ≡ true → in_range k (given k ks xs) ≡ true
-  ranged k g = passed-given k in_range ks xs t.passed.ranged g
+  ranged k g = passed_given k in_range ks xs t.passed.ranged g
 
   -- the message at a place that the step gives stands in the record, and holds what is wanted there
   at_place : (k : Argument) → ((n x : ℕ) → placed n k x ≡ between 1 x n) → gives k ks ≡ true
       → (message_at R (record { 0 = given k ks xs }) ∈ R) × (holding R k (given k ks xs) ≡ true)
   at_place k p g = (
     member_place R (given k ks xs)
-        (sym (p (length R) (given k ks xs)) ∙ passed-given k (placed (length R)) ks xs t.passed.places g),
-    passed-given k (holding R) ks xs t.passed.held g,
+        (sym (p (length R) (given k ks xs)) ∙ passed_given k (placed (length R)) ks xs t.passed.places g),
+    passed_given k (holding R) ks xs t.passed.held g,
   )
 
   -- an honest step names a message of the kind that its row says
@@ -106,8 +106,8 @@ module _ {room : ℕ} {R : Record} {d : Deed} {ks : List Argument} {xs : List �
   named k = at_place (Argument.the k) (λ n x. refl)
 
   -- the outsider copies an item from a message that yields it
-  copied-from : (i : Item) → gives (Argument.at i) ks ≡ true → (copied R ks xs i ∈ R) × (yields i (copied R ks xs i) ≡ true)
-  copied-from i = at_place (Argument.at i) (λ n x. refl)
+  copied_from : (i : Item) → gives (Argument.at i) ks ≡ true → (copied R ks xs i ∈ R) × (yields i (copied R ks xs i) ≡ true)
+  copied_from i = at_place (Argument.at i) (λ n x. refl)
 
   -- what holds of the item in every message that yields it, and of what is built in its place, holds of the item
   pub item_of : {A : Type 0} (P : A → Type 0) (i : Item) (read : Message → A) (built : A)
@@ -115,4 +115,4 @@ module _ {room : ℕ} {R : Record} {d : Deed} {ks : List Argument} {xs : List �
       → P (item_or R ks xs i read built)
   item_of P i read built reads builds =
       let w = copied R ks xs i in
-      picked P (gives (Argument.at i) ks) (read w) built (λ g. let c = copied-from i g in reads w c.0 c.1) builds
+      picked P (gives (Argument.at i) ks) (read w) built (λ g. let c = copied_from i g in reads w c.0 c.1) builds

@@ -13,9 +13,9 @@ use Rattle.record.proofs.Cut.{length_cut, messages_with, with_length}
 use Rattle.messages.specs.Layout.{message_width}
 use Rattle.messages.specs.Parts.{Message}
 use Rattle.record.specs.Table.{Record, messages, room_of, with_message}
-use Rattle.rules.proofs.Accepted.{Passed, accepts, is-accepted}
+use Rattle.rules.proofs.Accepted.{Passed, accepts, is_accepted}
 use Rattle.rules.proofs.LawfulReached.{holds_as, step_as_run}
-use Rattle.rules.proofs.Reached.{kept-reached, reached-more, reached-none}
+use Rattle.rules.proofs.Reached.{kept_reached, reached_more, reached_none}
 use Rattle.rules.proofs.Runs.{run_keeps, run_refused_lem}
 use Rattle.rules.proofs.Vouched.{reached_full}
 use Rattle.rules.specs.Codes.{row_of}
@@ -26,7 +26,7 @@ use Rattle.rules.specs.Step.{Outcome, accepted, arguments_of, code_of, count_aft
 use Rattle.rules.specs.Theorems.{CopyReached, EmptyReached, HostReaches, StepReaches}
 
 pub empty_reached : EmptyReached
-empty_reached t e = record { measured = e; reached = reached-none (room_of t) }
+empty_reached t e = record { measured = e; reached = reached_none (room_of t) }
 
 -- what a call leaves, by its outcome
 module _ (n : ℕ) (t : List ℕ) (h : HoldsReached n t) (c : Call) where
@@ -39,9 +39,9 @@ module _ (n : ℕ) (t : List ℕ) (h : HoldsReached n t) (c : Call) where
   leaves : (o : Outcome) → judge_call (room_of t) R c ≡ o → Leaves o
   leaves (refused k) e = (refl, h)
   leaves (accepted x) e =
-      let more = reached-more (room_of t) R c x h.reached e in
+      let more = reached_more (room_of t) R c x h.reached e in
       let long : length x ≡ message_width = reached_full (room_of t) (R ++ (x ∷ [])) more x (Memᴰ.append_right R (Memᴰ.head refl)) in
-      let roomy : n < room_of t = omega (arith, (is-accepted c.answers (room_of t) R c.step x e).passed.roomy, length_cut message_width n t) in
+      let roomy : n < room_of t = omega (arith, (is_accepted c.answers (room_of t) R c.step x e).passed.roomy, length_cut message_width n t) in
       let joined : messages (n + 1) (with_message n t x) ≡ R ++ (x ∷ []) =
       ap (λ (k : ℕ). messages k (with_message n t x)) (add-one n) ∙ messages_with n t x (omega arith) long
       in (
@@ -58,26 +58,26 @@ step_reaches n t h c =
 -- what was reached with some room is reached with any other in which it fits: the calls that added its messages are accepted there too
 roomier : (room other : ℕ) (R : Record) → Reached room R → length R ≤ other → Reached other R
 roomier room other R r =
-    kept-reached room (λ (T : Record). length T ≤ other → Reached other T) keep R r (λ z. reached-none other)
+    kept_reached room (λ (T : Record). length T ≤ other → Reached other T) keep R r (λ z. reached_none other)
   where
     keep : (T : Record) (c : Call) (x : Message) → (length T ≤ other → Reached other T) → judge_call room T c ≡ accepted x
         → length (T ++ (x ∷ [])) ≤ other → Reached other (T ++ (x ∷ []))
     keep T c x p e fits =
         let long = length-append T (x ∷ []) in
-        let a = is-accepted c.answers room T c.step x e in
+        let a = is_accepted c.answers room T c.step x e in
         let q = a.passed in
         let passed : Passed other T (row_of (code_of c.step)).deed (row_of (code_of c.step)).takes (arguments_of c.step) =
         record { ranged = q.ranged; places = q.places; held = q.held; claimed = q.claimed; roomy = omega (arith, long) }
         in
-        reached-more other T c x (p (omega (arith, long)))
+        reached_more other T c x (p (omega (arith, long)))
         (accepts c.answers other T c.step x (record { coded = a.coded; passed = passed; message = a.message }))
 
 pub copy_reached : CopyReached
-copy_reached n t u h e fits same-messages =
+copy_reached n t u h e fits same_messages =
     record {
       measured = e;
       reached =
-          subst (Reached (room_of u)) (sym same-messages)
+          subst (Reached (room_of u)) (sym same_messages)
           (roomier (room_of t) (room_of u) (messages n t) h.reached (omega (arith, length_cut message_width n t)));
     }
 

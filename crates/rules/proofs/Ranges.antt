@@ -75,11 +75,11 @@ module _ (k : Kind) (w : Message) (l : lawful w ≡ true) (e : is_kind k w ≡ t
       subst (λ (j : ℕ). fits (get_or kind_ranges (j - 1) []) w ≡ true) (eqb-true (kind_of w) (kind_number k) e)
       (right_of (eqb (length w) message_width) _ l)
 
-  pub lawful-number : (i : ℕ) → within (get_or (ranges_of k) i unused) (get_or w i 0) ≡ true
-  lawful-number = fits_at (ranges_of k) w kind_fits
+  pub lawful_number : (i : ℕ) → within (get_or (ranges_of k) i unused) (get_or w i 0) ≡ true
+  lawful_number = fits_at (ranges_of k) w kind_fits
 
-  pub lawful-part : (i n : ℕ) → fits (entries unused (ranges_of k) i n) (entries 0 w i n) ≡ true
-  lawful-part = fits_part (ranges_of k) w kind_fits
+  pub lawful_part : (i n : ℕ) → fits (entries unused (ranges_of k) i n) (entries 0 w i n) ≡ true
+  lawful_part = fits_part (ranges_of k) w kind_fits
 
 -- the parts are in their ranges
 abbrev pub Hashed✓ : Hashed → Type 0

@@ -20,34 +20,34 @@ use Rattle.rules.specs.Theorems.{Prefixes}
 module _ (room : ℕ) where
   -- what an accepted step keeps, a list of calls keeps
   module _ (P : Record → Type 0) (keep : (R : Record) (c : Call) (x : Message) → P R → judge_call room R c ≡ accepted x → P (R ++ (x ∷ []))) where
-    kept-after : (R : Record) (c : Call) → P R → (o : Outcome) → judge_call room R c ≡ o → P (record_after R o)
-    kept-after R c p (accepted x) e = keep R c x p e
-    kept-after R c p (refused k) e = p
+    kept_after : (R : Record) (c : Call) → P R → (o : Outcome) → judge_call room R c ≡ o → P (record_after R o)
+    kept_after R c p (accepted x) e = keep R c x p e
+    kept_after R c p (refused k) e = p
 
     kept : (cs : List Call) (R : Record) → P R → P (called room R cs)
     unfolding called
     kept [] R p = p
-    kept (c ∷ cs) R p = kept cs (record_after R (judge_call room R c)) (kept-after R c p (judge_call room R c) refl)
+    kept (c ∷ cs) R p = kept cs (record_after R (judge_call room R c)) (kept_after R c p (judge_call room R c) refl)
 
-    pub kept-reached : (R : Record) → Reached room R → P [] → P R
-    kept-reached R r p = subst P (sym r.left) (kept r.calls [] p)
+    pub kept_reached : (R : Record) → Reached room R → P [] → P R
+    kept_reached R r p = subst P (sym r.left) (kept r.calls [] p)
 
   -- a list that is played in two parts
-  pub called-append : (R : Record) (cs ds : List Call) → called room R (cs ++ ds) ≡ called room (called room R cs) ds
+  pub called_append : (R : Record) (cs ds : List Call) → called room R (cs ++ ds) ≡ called room (called room R cs) ds
   unfolding called
-  called-append R [] ds = refl
-  called-append R (c ∷ cs) ds = called-append (record_after R (judge_call room R c)) cs ds
+  called_append R [] ds = refl
+  called_append R (c ∷ cs) ds = called_append (record_after R (judge_call room R c)) cs ds
 
   -- records only grow
-  grown-after : (R : Record) (o : Outcome) → (rest : Record) × (record_after R o ≡ R ++ rest)
-  grown-after R (accepted x) = (x ∷ [], refl)
-  grown-after R (refused k) = ([], sym (append-nil R))
+  grown_after : (R : Record) (o : Outcome) → (rest : Record) × (record_after R o ≡ R ++ rest)
+  grown_after R (accepted x) = (x ∷ [], refl)
+  grown_after R (refused k) = ([], sym (append-nil R))
 
   pub grown : (R : Record) (cs : List Call) → (rest : Record) × (called room R cs ≡ R ++ rest)
   unfolding called
   grown R [] = ([], sym (append-nil R))
   grown R (c ∷ cs) =
-      let here = grown-after R (judge_call room R c) in
+      let here = grown_after R (judge_call room R c) in
       let more = grown (record_after R (judge_call room R c)) cs in
       (here.0 ++ more.0, more.1 ∙ ap (◌++ more.0) here.1 ∙ append_assoc R here.0 more.0)
 
@@ -60,24 +60,24 @@ module _ (room : ℕ) where
   abbrev History : Record → Type 0
   History R = (i : ℕ) → i < length R → Entered (take i R) (get_or R i [])
 
-  pub reached-none : Reached room []
+  pub reached_none : Reached room []
   unfolding called
-  reached-none = record { calls = []; left = refl }
+  reached_none = record { calls = []; left = refl }
 
   -- whatever one more call leaves
-  pub reached-after : (R : Record) (c : Call) → Reached room R → Reached room (record_after R (judge_call room R c))
+  pub reached_after : (R : Record) (c : Call) → Reached room R → Reached room (record_after R (judge_call room R c))
   unfolding called
-  reached-after R c r =
+  reached_after R c r =
       record {
         calls = r.calls ++ (c ∷ []);
-        left = ap (λ (T : Record). called room T (c ∷ [])) r.left ∙ sym (called-append [] r.calls (c ∷ []));
+        left = ap (λ (T : Record). called room T (c ∷ [])) r.left ∙ sym (called_append [] r.calls (c ∷ []));
       }
 
-  pub reached-more : (R : Record) (c : Call) (x : Message) → Reached room R → judge_call room R c ≡ accepted x → Reached room (R ++ (x ∷ []))
-  reached-more R c x r e = subst (λ (o : Outcome). Reached room (record_after R o)) e (reached-after R c r)
+  pub reached_more : (R : Record) (c : Call) (x : Message) → Reached room R → judge_call room R c ≡ accepted x → Reached room (R ++ (x ∷ []))
+  reached_more R c x r e = subst (λ (o : Outcome). Reached room (record_after R o)) e (reached_after R c r)
 
-  history-more : (R : Record) (x : Message) → History R → Entered R x → History (R ++ (x ∷ []))
-  history-more R x h n i l = go (ltb i (length R)) refl
+  history_more : (R : Record) (x : Message) → History R → Entered R x → History (R ++ (x ∷ []))
+  history_more R x h n i l = go (ltb i (length R)) refl
     where
       go : (b : Bool) → ltb i (length R) ≡ b → Entered (take i (R ++ (x ∷ []))) (get_or (R ++ (x ∷ [])) i [])
       go true e =
@@ -89,11 +89,11 @@ module _ (room : ℕ) where
           (subst₂ Entered (sym (take-append_seam R (x ∷ []))) (sym (get_or-append_seam R x [] [])) n)
 
   pub history : (R : Record) → Reached room R → History R
-  history R r = (kept-reached (λ (T : Record). Reached room T × History T) keep R r (reached-none, λ i h. absurd (not-suc-le-zero h))).1
+  history R r = (kept_reached (λ (T : Record). Reached room T × History T) keep R r (reached_none, λ i h. absurd (not-suc-le-zero h))).1
     where
       keep : (T : Record) (c : Call) (x : Message) → Reached room T × History T → judge_call room T c ≡ accepted x
           → Reached room (T ++ (x ∷ [])) × History (T ++ (x ∷ []))
-      keep T c x p e = (reached-more T c x p.0 e, history-more T x p.1 (record { call = c; reached = p.0; entered = e }))
+      keep T c x p e = (reached_more T c x p.0 e, history_more T x p.1 (record { call = c; reached = p.0; entered = e }))
 
 -- a list of steps that is played in two parts, all with the same account answers
 calls_append : (answers : ℕ) (ss ts : List Step) → calls_with answers (ss ++ ts) ≡ calls_with answers ss ++ calls_with answers ts
@@ -104,7 +104,7 @@ pub played_append : (answers room : ℕ) (R : Record) (ss ts : List Step)
     → played answers room R (ss ++ ts) ≡ played answers room (played answers room R ss) ts
 unfolding played
 played_append answers room R ss ts =
-    ap (called room R) (calls_append answers ss ts) ∙ called-append room R (calls_with answers ss) (calls_with answers ts)
+    ap (called room R) (calls_append answers ss ts) ∙ called_append room R (calls_with answers ss) (calls_with answers ts)
 
 -- what steps with the same account answers leave is reached
 pub reached_played : (answers room : ℕ) (ss : List Step) → Reached room (played answers room [] ss)

@@ -58,9 +58,9 @@ agreed_report R x a =
     let out = both_outside x e in
     record { agreed = (λ q. absurd (omega arith), λ n. absurd (n out)); outsider = (λ q. out, λ b. refl) })
     (λ e.
-    let not-out : ¬ BothOutside x = λ b. true≢false (sym (outside_test x b) ∙ e) in
-    let is-20 : cond (agreed x R) 20 22 ≡ 20 = ap (λ (b : Bool). cond b 20 22) (agreed_test x R (a not-out)) in
-    record { agreed = (λ q. not-out, λ n. is-20); outsider = (λ q. absurd (omega arith), λ b. absurd (not-out b)) })
+    let not_out : ¬ BothOutside x = λ b. true≢false (sym (outside_test x b) ∙ e) in
+    let is_20 : cond (agreed x R) 20 22 ≡ 20 = ap (λ (b : Bool). cond b 20 22) (agreed_test x R (a not_out)) in
+    record { agreed = (λ q. not_out, λ n. is_20); outsider = (λ q. absurd (omega arith), λ b. absurd (not_out b)) })
 
 -- at each house reply of a reached record, and of a table that holds one
 reported : (room : ℕ) (R : Record) → Reached room R → (p : Place) → HouseReplyAt R p → Reported (payment_at R p) (report_at R p)
@@ -89,13 +89,13 @@ never_22 n t h p e =
 
 -- the row of the reply x at p + 1, and the rows from there on
 module _ (room : ℕ) (R : Record) (r : Reached room R) where
-  row-reported : (p : ℕ) (x : Message) → p < length R → get_or R p [] ≡ x → house_reply x ≡ true → RowReported (reply_row (take p R) p (reply_mark x))
-  row-reported p x l e h =
+  row_reported : (p : ℕ) (x : Message) → p < length R → get_or R p [] ≡ x → house_reply x ≡ true → RowReported (reply_row (take p R) p (reply_mark x))
+  row_reported p x l e h =
       let q : Place = record { 0 = p + 1 } in
       let k : p + 1 - 1 ≡ p = omega arith in
-      let at-q : message_at R q ≡ x = ap (λ (j : ℕ). get_or R j []) k ∙ e in
+      let at_q : message_at R q ≡ x = ap (λ (j : ℕ). get_or R j []) k ∙ e in
       let there : HouseReplyAt R q =
-      record { inside = inside {l = 1} {x = p + 1} (omega arith) (omega arith); reply = ap house_reply at-q ∙ h }
+      record { inside = inside {l = 1} {x = p + 1} (omega arith) (omega arith); reply = ap house_reply at_q ∙ h }
       in
       record {
         place = p + 1;
@@ -103,24 +103,24 @@ module _ (room : ℕ) (R : Record) (r : Reached room R) where
         number = report_on (take p R) (reply_mark x);
         says = refl;
         reported =
-            subst₂ (λ (w : Message) (j : ℕ). Reported (reply_mark w) (report_on (take j R) (reply_mark w))) at-q k (reported room R r q there);
+            subst₂ (λ (w : Message) (j : ℕ). Reported (reply_mark w) (report_on (take j R) (reply_mark w))) at_q k (reported room R r q there);
       }
 
-  rows-from : (xs : Record) (p : ℕ) → drop p R ≡ xs → (row : List ℕ) → Memᴰ row (reply_rows R p xs) → RowReported row
+  rows_from : (xs : Record) (p : ℕ) → drop p R ≡ xs → (row : List ℕ) → Memᴰ row (reply_rows R p xs) → RowReported row
   unfolding reply_rows
-  rows-from [] p e row m = absurd (Memᴰ.not-nil m)
-  rows-from (x ∷ xs) p e row m =
+  rows_from [] p e row m = absurd (Memᴰ.not-nil m)
+  rows_from (x ∷ xs) p e row m =
       let l : p < length R = omega (arith, ap length e, length-drop p R) in
       let split = sym e ∙ drop-cons R p [] l in
       let rest : drop (p + 1) R ≡ xs = ap (λ (k : ℕ). drop k R) (add-one p) ∙ sym (ap (drop 1) split) in
       let here = reply_row (take p R) p (reply_mark x) in
-      let later = rows-from xs (p + 1) rest row in
+      let later = rows_from xs (p + 1) rest row in
       picked (λ (rows : List (List ℕ)). Memᴰ row rows → RowReported row) (house_reply x) (here ∷ reply_rows R (p + 1) xs)
       (reply_rows R (p + 1) xs)
       (λ h n.
-      ⊎_elim (λ q. subst RowReported (sym q) (row-reported p x l (sym (ap (λ (zs : Record). get_or zs 0 []) split)) h)) later
+      ⊎_elim (λ q. subst RowReported (sym q) (row_reported p x l (sym (ap (λ (zs : Record). get_or zs 0 []) split)) h)) later
       (Memᴰ.cases_cons n))
       (λ h. later) m
 
 pub rows_reported : RowsReported
-rows_reported room R r row m = rows-from room R r R 0 refl row m
+rows_reported room R r row m = rows_from room R r R 0 refl row m

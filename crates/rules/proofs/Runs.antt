@@ -15,10 +15,10 @@ use Rattle.messages.specs.Parts.{Message}
 use Rattle.record.specs.Table.{Record, cut, messages, room_of, whole}
 use Rattle.rules.proofs.Gates.{Open, all_open, either_way, passes}
 use Rattle.rules.proofs.LawfulReached.{holds_as, reached_room, step_as_run, table_lawful}
-use Rattle.rules.proofs.Reached.{called-append, prefixes, reached_played}
+use Rattle.rules.proofs.Reached.{called_append, prefixes, reached_played}
 use Rattle.rules.proofs.Reports.{never_22, reports}
 use Rattle.rules.proofs.Agreement.{agreement}
-use Rattle.rules.proofs.Session.{Placed, placed-new, sessions}
+use Rattle.rules.proofs.Session.{Placed, placed_new, sessions}
 use Rattle.rules.proofs.Vouched.{reached_full}
 use Rattle.rules.specs.Agreed.{HouseReplyAt, Reported}
 use Rattle.rules.specs.Promised.{Kept, session_after}
@@ -37,21 +37,21 @@ steps_append xs ys e =
 
 -- the verdict of a step is its number against what the steps before it left
 module _ (answers room : ℕ) where
-  pub verdicts-length : (R : Record) (ss : List Step) → length (verdicts answers room R ss) ≡ length ss
+  pub verdicts_length : (R : Record) (ss : List Step) → length (verdicts answers room R ss) ≡ length ss
   unfolding verdicts
-  verdicts-length R [] = refl
-  verdicts-length R (s ∷ ss) = ap suc (verdicts-length (record_after R (judge answers room R s)) ss)
+  verdicts_length R [] = refl
+  verdicts_length R (s ∷ ss) = ap suc (verdicts_length (record_after R (judge answers room R s)) ss)
 
-  verdict-at : (R : Record) (ss : List Step) (s : Step) (ts : List Step)
+  verdict_at : (R : Record) (ss : List Step) (s : Step) (ts : List Step)
       → get_or (verdicts answers room R (ss ++ (s ∷ ts))) (length ss) 0 ≡ number_of (judge answers room (played answers room R ss) s)
   unfolding verdicts played called
-  verdict-at R [] s ts = refl
-  verdict-at R (r ∷ ss) s ts = verdict-at (record_after R (judge answers room R r)) ss s ts
+  verdict_at R [] s ts = refl
+  verdict_at R (r ∷ ss) s ts = verdict_at (record_after R (judge answers room R r)) ss s ts
 
 -- a session played as one list
 session_played : (c : Setting) (after5 : List Call) → called c.room c.start (session_calls c after5) ≡ R6 c after5
 session_played c after5 =
-    let joined = called-append c.room in
+    let joined = called_append c.room in
     let l5 = step5 c ∷ after5 in
     let l4 = step4 c ∷ (c.after4 ++ l5) in
     let l3 = step3 c ∷ (c.after3 ++ l4) in
@@ -69,14 +69,14 @@ module _ (answers : ℕ) (t xs bytes : List ℕ) where
   done = run_played answers t xs bytes
 
   -- a run that returns 0 has passed its three gates
-  ran-through : (run answers t xs bytes).number ≡ 0 → Open (run_gates answers t xs bytes)
+  ran_through : (run answers t xs bytes).number ≡ 0 → Open (run_gates answers t xs bytes)
   unfolding run
-  ran-through z =
+  ran_through z =
       (all_open (run_refused answers t xs bytes) done (λ (r : Ran). r.number ≡ 0) (λ k l q. omega arith) (run_gates answers t xs bytes) refl z).0
 
-  ran-done : (run answers t xs bytes).number ≡ 0 → run answers t xs bytes ≡ done
+  ran_done : (run answers t xs bytes).number ≡ 0 → run answers t xs bytes ≡ done
   unfolding run
-  ran-done z = passes (run_refused answers t xs bytes) done (run_gates answers t xs bytes) (ran-through z)
+  ran_done z = passes (run_refused answers t xs bytes) done (run_gates answers t xs bytes) (ran_through z)
 
   reached : Reached (room_of t) R
   reached = reached_played answers (room_of t) (steps_of xs)
@@ -84,41 +84,41 @@ module _ (answers : ℕ) (t xs bytes : List ℕ) where
   full : AllLong message_width R
   full = reached_full (room_of t) R reached
 
-  flat-room : length (flat R) ≤ length t
-  flat-room = omega (arith, flat_length message_width R full, reached_room (room_of t) R reached)
+  flat_room : length (flat R) ≤ length t
+  flat_room = omega (arith, flat_length message_width R full, reached_room (room_of t) R reached)
 
   pub left_is : messages (length R) (over (flat R) t) ≡ R
   left_is = cut_flat message_width R (drop (length (flat R)) t) full
 
   same_length : length (over (flat R) t) ≡ length t
-  same_length = length-append (flat R) (drop (length (flat R)) t) ∙ omega (arith, flat-room, length-drop (length (flat R)) t)
+  same_length = length-append (flat R) (drop (length (flat R)) t) ∙ omega (arith, flat_room, length-drop (length (flat R)) t)
 
-  holds-reached : whole t ≡ true → HoldsReached (length R) (over (flat R) t)
-  holds-reached e = holds_as (length R) t (over (flat R) t) same_length e (subst (Reached (room_of t)) (sym left_is) reached)
+  holds_reached : whole t ≡ true → HoldsReached (length R) (over (flat R) t)
+  holds_reached e = holds_as (length R) t (over (flat R) t) same_length e (subst (Reached (room_of t)) (sym left_is) reached)
 
-  done-verdict : (ss : List Step) (s : Step) (ts : List Step) → steps_of xs ≡ ss ++ (s ∷ ts)
+  done_verdict : (ss : List Step) (s : Step) (ts : List Step) → steps_of xs ≡ ss ++ (s ∷ ts)
       → get_or done.verdict_bytes (length ss) 0 ≡ number_of (judge answers (room_of t) (played answers (room_of t) [] ss) s)
-  done-verdict ss s ts e =
+  done_verdict ss s ts e =
       let vs = verdicts answers (room_of t) [] (steps_of xs) in
       get_or-append vs (drop (length vs) bytes) 0 (length ss)
-      (omega (arith, verdicts-length answers (room_of t) [] (steps_of xs), ap length e, length-append ss (s ∷ ts)))
+      (omega (arith, verdicts_length answers (room_of t) [] (steps_of xs), ap length e, length-append ss (s ∷ ts)))
       ∙ ap (λ (zs : List Step). get_or (verdicts answers (room_of t) [] zs) (length ss) 0) e
-      ∙ verdict-at answers (room_of t) [] ss s ts
+      ∙ verdict_at answers (room_of t) [] ss s ts
 
   as_called : {cs : List Call} → calls_with answers (steps_of xs) ≡ cs → R ≡ called (room_of t) [] cs
   unfolding played
   as_called q = ap (called (room_of t) []) q
 
-  done-kept : whole t ≡ true → Kept answers t xs done
-  done-kept e =
-      let h = holds-reached e in
+  done_kept : whole t ≡ true → Kept answers t xs done
+  done_kept e =
+      let h = holds_reached e in
       let n = length R in
       let after = over (flat R) t in
       record {
-        messages-left = left_is;
-        verdict = done-verdict;
+        messages_left = left_is;
+        verdict = done_verdict;
         held = h;
-        lawful-left = table_lawful n after h;
+        lawful_left = table_lawful n after h;
         judged = λ s. step_as_run n after h (record { answers = answers; step = s }) ∙ ap (λ (k : ℕ). judge answers (k / message_width) (messages n after) s) same_length;
         agreed = agreement (room_of after) (messages n after) h.reached;
         reported = reports n after h;
@@ -126,23 +126,23 @@ module _ (answers : ℕ) (t xs bytes : List ℕ) where
         sessions =
             λ l0 l1 l2 l3 l4 l5 B S b✓ s✓ q roomy.
             let c = session_after answers t xs done l0 B S l1 l2 l3 l4 in
-            let all-five = sessions c b✓ s✓ roomy in
+            let all_five = sessions c b✓ s✓ roomy in
             let p = place5 c in
             let left_so : messages n after ≡ R6 c l5 =
             left_is
             ∙ as_called q
-            ∙ called-append (room_of t) [] l0 (session_calls c l5)
+            ∙ called_append (room_of t) [] l0 (session_calls c l5)
             ∙ session_played c l5
             in
-            let placed-so : Placed (messages n after) p (session_reply c) =
+            let placed_so : Placed (messages n after) p (session_reply c) =
             subst (λ (T : Record). Placed T p (session_reply c)) (sym left_so)
-            (placed-new (room_of t) (R5 c) (step5 c) (session_reply c) l5 all-five.replies)
+            (placed_new (room_of t) (R5 c) (step5 c) (session_reply c) l5 all_five.replies)
             in
             let at_p : HouseReplyAt (messages n after) p =
-            record { inside = placed-so.inside; reply = ap house_reply placed-so.message }
+            record { inside = placed_so.inside; reply = ap house_reply placed_so.message }
             in (
-              all-five,
-              subst (λ (w : Message). Reported (reply_mark w) (report n after p)) placed-so.message (reports n after h p at_p),
+              all_five,
+              subst (λ (w : Message). Reported (reply_mark w) (report n after p)) placed_so.message (reports n after h p at_p),
             );
       }
 
@@ -156,21 +156,21 @@ run_refused_lem answers t xs bytes =
 -- whatever a run leaves, when it returns 0
 pub run_keeps : RunKeeps
 run_keeps answers t xs bytes z =
-    subst (Kept answers t xs) (sym (ran-done answers t xs bytes z)) (done-kept answers t xs bytes (ran-through answers t xs bytes z).0)
+    subst (Kept answers t xs) (sym (ran_done answers t xs bytes z)) (done_kept answers t xs bytes (ran_through answers t xs bytes z).0)
 
 -- with the same account answers and room, the messages left by a shorter list are the first messages of what a list that continues it leaves
 pub run_prefixes : RunPrefixes
-run_prefixes answers t u xs ys bytes more same-room y z =
+run_prefixes answers t u xs ys bytes more same_room y z =
     let shorter = run answers t xs bytes in
     let left_by = played answers (room_of t) [] in
-    let short = (run_keeps answers t xs bytes y).messages-left in
-    let long = (run_keeps answers u (xs ++ ys) more z).messages-left in
+    let short = (run_keeps answers t xs bytes y).messages_left in
+    let long = (run_keeps answers u (xs ++ ys) more z).messages_left in
     let counted : shorter.n ≡ length (left_by (steps_of xs)) =
     sym (length_cut message_width shorter.n shorter.table) ∙ ap length short
     in
     ap₂ take counted
     (long
-    ∙ ap (λ (room : ℕ). played answers room [] (steps_of (xs ++ ys))) (sym same-room)
-    ∙ ap left_by (steps_append xs ys (ran-through answers t xs bytes y).1.0))
+    ∙ ap (λ (room : ℕ). played answers room [] (steps_of (xs ++ ys))) (sym same_room)
+    ∙ ap left_by (steps_append xs ys (ran_through answers t xs bytes y).1.0))
     ∙ prefixes answers (room_of t) (steps_of xs) (steps_of ys)
     ∙ sym short

@@ -57,16 +57,16 @@ placed_end R x =
     }
 
 module _ (room : ℕ) where
-  placed-later : {R : Record} {p : Place} {x : Message} (cs : List Call) → Placed R p x → Placed (called room R cs) p x
-  placed-later {R} {p} {x} cs h =
+  placed_later : {R : Record} {p : Place} {x : Message} (cs : List Call) → Placed R p x → Placed (called room R cs) p x
+  placed_later {R} {p} {x} cs h =
       let more = grown room R cs in
       subst (λ (T : Record). Placed T p x) (sym more.1) (placed_in_lem R more.0 p x h)
 
-  pub placed-new : (R : Record) (c : Call) (x : Message) (cs : List Call) → judge_call room R c ≡ accepted x
+  pub placed_new : (R : Record) (c : Call) (x : Message) (cs : List Call) → judge_call room R c ≡ accepted x
       → Placed (called room R (c ∷ cs)) (new_place R) x
   unfolding called
-  placed-new R c x cs e =
-      subst (λ (T : Record). Placed (called room T cs) (new_place R) x) (sym (ap (record_after R) e)) (placed-later cs (placed_end R x))
+  placed_new R c x cs e =
+      subst (λ (T : Record). Placed (called room T cs) (new_place R) x) (sym (ap (record_after R) e)) (placed_later cs (placed_end R x))
 
 module _ (c : Setting) (buyer✓ : within buyers c.buyer.0 ≡ true) (seller✓ : within sellers c.seller.0 ≡ true) (room : RoomAtEach c) where
   abbrev B : Buyer
@@ -83,10 +83,10 @@ module _ (c : Setting) (buyer✓ : within buyers c.buyer.0 ≡ true) (seller✓ 
 
   new : (R : Record) (s : Call) (y : Message) (cs : List Call) → judge_call c.room R s ≡ accepted y
       → Placed (called c.room R (s ∷ cs)) (new_place R) y
-  new = placed-new c.room
+  new = placed_new c.room
 
   stays : {R : Record} {p : Place} {y : Message} (cs : List Call) → Placed R p y → Placed (called c.room R cs) p y
-  stays = placed-later c.room
+  stays = placed_later c.room
 
   -- each step on the record that it meets, with the messages that it names
   accepted1 : judge_call c.room c.start (step1 c) ≡ accepted (its_initiate x)

@@ -22,7 +22,7 @@ use Rattle.messages.specs.declared.signed.RequestSigned.{RequestSigned}
 use Rattle.rules.proofs.Claims.{as_part, facts}
 use Rattle.rules.proofs.Deeds.{Taken, by_deed, item_of, named, paying, two_named}
 use Rattle.rules.proofs.Laid.{full_length, one_kind, relaid}
-use Rattle.rules.proofs.Reached.{kept-reached}
+use Rattle.rules.proofs.Reached.{kept_reached}
 use Rattle.rules.proofs.Tests.{other, picked}
 use Rattle.rules.specs.Agreed.{◌∈◌}
 use Rattle.rules.specs.Codes.{Argument, Deed, Item, asks, forges, invoices, pays, replies, starts}
@@ -92,19 +92,19 @@ AllSound R = (w : Message) → w ∈ R → Sound R w
 
 -- a longer record keeps it
 module _ {R T : Record} (grows : (w : Message) → w ∈ R → w ∈ T) where
-  own-grows : {x : Mark} {w : Message} → OwnInvoice R x w → OwnInvoice T x w
-  own-grows o = record { says = o.says; initiate = (o.initiate.0, grows _ o.initiate.1) }
+  own_grows : {x : Mark} {w : Message} → OwnInvoice R x w → OwnInvoice T x w
+  own_grows o = record { says = o.says; initiate = (o.initiate.0, grows _ o.initiate.1) }
 
-  pub buyer-grows : {p : BuyerSigned} → BuyerVouches R p → BuyerVouches T p
-  buyer-grows b =
+  pub buyer_grows : {p : BuyerSigned} → BuyerVouches R p → BuyerVouches T p
+  buyer_grows b =
       record {
         initiate = grows _ b.initiate;
         payment = grows _ b.payment;
         invoice = (b.invoice.0, grows _ b.invoice.1);
       }
 
-  pub seller-grows : {q : RequestSigned} → SellerVouches R q → SellerVouches T q
-  seller-grows s =
+  pub seller_grows : {q : RequestSigned} → SellerVouches R q → SellerVouches T q
+  seller_grows s =
       record {
         invoice = grows _ s.invoice;
         request = grows _ s.request;
@@ -112,16 +112,16 @@ module _ {R T : Record} (grows : (w : Message) → w ∈ R → w ∈ T) where
         payment = (s.payment.0, grows _ s.payment.1);
       }
 
-  vouched-grows : (k : Kind) (w : Message) → Vouched R k w → Vouched T k w
-  vouched-grows Initiate w e = tt
-  vouched-grows Invoice w e = λ h. own-grows (e h)
-  vouched-grows Payment w e = λ h. buyer-grows (e h)
-  vouched-grows AuthRequest w e = (λ h. buyer-grows (e.0 h), λ h. seller-grows (e.1 h))
-  vouched-grows AuthResponse w e = tt
+  vouched_grows : (k : Kind) (w : Message) → Vouched R k w → Vouched T k w
+  vouched_grows Initiate w e = tt
+  vouched_grows Invoice w e = λ h. own_grows (e h)
+  vouched_grows Payment w e = λ h. buyer_grows (e h)
+  vouched_grows AuthRequest w e = (λ h. buyer_grows (e.0 h), λ h. seller_grows (e.1 h))
+  vouched_grows AuthResponse w e = tt
 
-  pub sound-grows : (w : Message) → Sound R w → Sound T w
-  sound-grows w e =
-      record { kind = e.kind; laid = e.laid; sent = e.sent; vouched = vouched-grows e.kind w e.vouched }
+  pub sound_grows : (w : Message) → Sound R w → Sound T w
+  sound_grows w e =
+      record { kind = e.kind; laid = e.laid; sent = e.sent; vouched = vouched_grows e.kind w e.vouched }
 
 -- what is kept of a message whose kind is known
 pub sound_as : (R : Record) (k : Kind) (w : Message) → Sound R w → is_kind k w ≡ true → (w ≡ relaid k w) × Vouched R k w
@@ -141,45 +141,45 @@ module _ (answers room : ℕ) (R : Record) (ks : List Argument) (xs : List ℕ) 
         (n.0, e.0, e.1)
 
     -- 2: an Initiate was sent to the seller by the buyer whom he answers
-    invoice-sound : Taken room R invoices ks xs → Sound T (added R ks xs answers invoices)
-    invoice-sound t =
+    invoice_sound : Taken room R invoices ks xs → Sound T (added R ks xs answers invoices)
+    invoice_sound t =
         let S = the_seller R ks xs in
         let I = the_initiate R ks xs in
-        let i = the_one t Initiate t.complete-row in
+        let i = the_one t Initiate t.row_is_complete in
         let f = facts (invoice_claims S I) t.passed.claimed in
-        let to-him : seller_at I destination ≡ S = as_part seller_at f.0 in
-        let sent-so : an_initiate (buyer_at I maker) (buyer_at I source) S (hashed_at I body) ≡ I =
-        ap (λ (to : Seller). an_initiate (buyer_at I maker) (buyer_at I source) to (hashed_at I body)) (sym to-him) ∙ sym i.1
+        let to_him : seller_at I destination ≡ S = as_part seller_at f.0 in
+        let sent_so : an_initiate (buyer_at I maker) (buyer_at I source) S (hashed_at I body) ≡ I =
+        ap (λ (to : Seller). an_initiate (buyer_at I maker) (buyer_at I source) to (hashed_at I body)) (sym to_him) ∙ sym i.1
         in
         record {
           kind = Invoice;
           laid = refl;
           sent = λ e. e;
-          vouched = λ h. record { says = refl; initiate = (buyer_at I maker, grows _ (Memᴰ.cast sent-so i.0)) };
+          vouched = λ h. record { says = refl; initiate = (buyer_at I maker, grows _ (Memᴰ.cast sent_so i.0)) };
         }
 
     -- 3 and 38: the buyer's own Initiate, the Payment itself, and the Invoice that he was sent
-    payment-sound : (key : Gateway) → (added R ks xs answers (pays key) ∈ T) → Taken room R (pays key) ks xs
+    payment_sound : (key : Gateway) → (added R ks xs answers (pays key) ∈ T) → Taken room R (pays key) ks xs
         → Sound T (added R ks xs answers (pays key))
-    payment-sound key new t =
+    payment_sound key new t =
         let B = the_buyer R ks xs in
         let I = the_initiate R ks xs in
         let J = the_invoice R ks xs in
         let S = seller_at I destination in
         let x = order_mark B I in
-        let i = the_one t Initiate (paying key ks t.complete-row).0 in
-        let j = the_one t Invoice (paying key ks t.complete-row).1 in
+        let i = the_one t Initiate (paying key ks t.row_is_complete).0 in
+        let j = the_one t Invoice (paying key ks t.row_is_complete).1 in
         let f = facts (pay_claims B I J) t.passed.claimed in
         let made : B ≡ buyer_at I maker = sym (as_part buyer_at f.0) in
         let sent : B ≡ buyer_at I source = sym (as_part buyer_at f.1.0) in
-        let from-seller : S ≡ seller_at J source = sym (as_part seller_at f.1.1.1.0) in
-        let to-him : B ≡ buyer_at J destination = sym (as_part buyer_at f.1.1.1.1.0) in
+        let from_seller : S ≡ seller_at J source = sym (as_part seller_at f.1.1.1.0) in
+        let to_him : B ≡ buyer_at J destination = sym (as_part buyer_at f.1.1.1.1.0) in
         let over : x ≡ mark_at J body = sym (as_part mark_at f.1.1.1.1.1.0) in
         let signer : S ≡ seller_at J invoice_signed = sym (as_part seller_at f.1.1.1.1.1.1.0) in
         let signed : x ≡ mark_at J (invoice_signed + 1) = sym (as_part mark_at f.1.1.1.1.1.1.1.0) in
-        let own-so : its_initiate x ≡ relaid Initiate I = λ k. an_initiate (made k) (sent k) S (hashed_at I body) in
-        let sent-so : an_invoice (seller_at J maker) S B x (record { signer = S; mark = x }) ≡ relaid Invoice J =
-        λ k. an_invoice (seller_at J maker) (from-seller k) (to-him k) (over k) (record { signer = signer k; mark = signed k })
+        let own_so : its_initiate x ≡ relaid Initiate I = λ k. an_initiate (made k) (sent k) S (hashed_at I body) in
+        let sent_so : an_invoice (seller_at J maker) S B x (record { signer = S; mark = x }) ≡ relaid Invoice J =
+        λ k. an_invoice (seller_at J maker) (from_seller k) (to_him k) (over k) (record { signer = signer k; mark = signed k })
         in
         record {
           kind = Payment;
@@ -188,32 +188,32 @@ module _ (answers room : ℕ) (R : Record) (ks : List Argument) (xs : List ℕ) 
           vouched =
               λ h.
               record {
-                initiate = grows _ (Memᴰ.cast (own-so ∙ sym i.1) i.0);
+                initiate = grows _ (Memᴰ.cast (own_so ∙ sym i.1) i.0);
                 payment = new;
-                invoice = (seller_at J maker, grows _ (Memᴰ.cast (sent-so ∙ sym j.1) j.0));
+                invoice = (seller_at J maker, grows _ (Memᴰ.cast (sent_so ∙ sym j.1) j.0));
               };
         }
 
     -- 4: the seller's own Invoice and what it answers, the Auth-Request itself, and the Payment that he was sent
-    request-sound : (added R ks xs answers asks ∈ T) → Taken room R asks ks xs → Sound T (added R ks xs answers asks)
-    request-sound new t =
+    request_sound : (added R ks xs answers asks ∈ T) → Taken room R asks ks xs → Sound T (added R ks xs answers asks)
+    request_sound new t =
         let S = the_seller R ks xs in
         let J = the_invoice R ks xs in
         let P = the_payment R ks xs in
         let x = mark_at J body in
         let y = slip_at P body in
-        let j = the_one t Invoice (two_named ks Invoice Payment t.complete-row).0 in
-        let p = the_one t Payment (two_named ks Invoice Payment t.complete-row).1 in
+        let j = the_one t Invoice (two_named ks Invoice Payment t.row_is_complete).0 in
+        let p = the_one t Payment (two_named ks Invoice Payment t.row_is_complete).1 in
         let f = facts (ask_claims S J P) t.passed.claimed in
         let made : seller_at J maker ≡ S = as_part seller_at f.0 in
         let seller : x.seller ≡ S = as_part seller_at f.1.1.0 in
         let buyer : x.buyer ≡ buyer_at J destination = as_part buyer_at f.1.1.1.0 in
-        let from-buyer : x.buyer ≡ buyer_at P source = buyer ∙ sym (as_part buyer_at f.1.1.1.1.0) in
-        let to-him : x.seller ≡ seller_at P destination = seller ∙ sym (as_part seller_at f.1.1.1.1.1.0) in
+        let from_buyer : x.buyer ≡ buyer_at P source = buyer ∙ sym (as_part buyer_at f.1.1.1.1.0) in
+        let to_him : x.seller ≡ seller_at P destination = seller ∙ sym (as_part seller_at f.1.1.1.1.1.0) in
         let signer : x.buyer ≡ buyer_at P payment_signed = buyer ∙ sym (as_part buyer_at f.1.1.1.1.1.1.0) in
         let slip : y ≡ slip_at P (payment_signed + 1) = sym (as_part slip_at f.1.1.1.1.1.1.1.0) in
         let mark : x ≡ mark_at P (payment_signed + 1 + slip_width) = sym (as_part mark_at f.1.1.1.1.1.1.1.1.0) in
-        let signed-so : ◌≡◌ {A = BuyerSigned} (record { signer = x.buyer; slip = y; mark = x }) (buyer_signed_at P payment_signed) =
+        let signed_so : ◌≡◌ {A = BuyerSigned} (record { signer = x.buyer; slip = y; mark = x }) (buyer_signed_at P payment_signed) =
         λ k. record { signer = signer k; slip = slip k; mark = mark k }
         in
         record {
@@ -221,66 +221,66 @@ module _ (answers room : ℕ) (R : Record) (ks : List Argument) (xs : List ℕ) 
           laid = refl;
           sent = λ e. e;
           vouched = (
-            λ h. buyer-grows grows (p.2 h),
+            λ h. buyer_grows grows (p.2 h),
             λ h.
                 let own = j.2 (λ e. h (sym (ap (λ (s : Seller). s.0) made) ∙ e)) in
                 record {
                   invoice = grows _ (Memᴰ.cast (sym own.says) j.0);
-                  request = Memᴰ.cast (λ k. request_by (seller k) x y (signed-so k)) new;
+                  request = Memᴰ.cast (λ k. request_by (seller k) x y (signed_so k)) new;
                   initiate = (own.initiate.0, grows _ own.initiate.1);
                   payment = (
                     buyer_at P maker,
-                    grows _ (Memᴰ.cast ((λ k. a_payment (buyer_at P maker) (from-buyer k) (to-him k) y (signed-so k)) ∙ sym p.1) p.0),
+                    grows _ (Memᴰ.cast ((λ k. a_payment (buyer_at P maker) (from_buyer k) (to_him k) y (signed_so k)) ∙ sym p.1) p.0),
                   );
                 },
           );
         }
 
     -- the outsider copies a buyer's signature from a Payment or an Auth-Request, or makes his own
-    copied-buyer : (w : Message) → w ∈ R → has_slip w ≡ true → BuyerVouched T (buyer_signed_in w)
-    copied-buyer w m e =
+    copied_buyer : (w : Message) → w ∈ R → has_slip w ≡ true → BuyerVouched T (buyer_signed_in w)
+    copied_buyer w m e =
         picked (λ (k : ℕ). BuyerVouched T (buyer_signed_at w k)) (is_kind Payment w) payment_signed request_buyer_signed
-        (λ y h. buyer-grows grows ((sound_as R Payment w (sound w m) y).1 h))
-        (λ n h. buyer-grows grows ((sound_as R AuthRequest w (sound w m) (other (is_kind Payment w) (is_kind AuthRequest w) e n)).1.0 h))
+        (λ y h. buyer_grows grows ((sound_as R Payment w (sound w m) y).1 h))
+        (λ n h. buyer_grows grows ((sound_as R AuthRequest w (sound w m) (other (is_kind Payment w) (is_kind AuthRequest w) e n)).1.0 h))
 
-    forged-buyer : {d : Deed} → Taken room R d ks xs → BuyerVouched T (buyer_signature R ks xs)
-    forged-buyer t =
-        item_of t (BuyerVouched T) Item.p buyer_signed_in (record { signer = no_buyer; slip = slip R ks xs; mark = mark R ks xs }) copied-buyer
+    forged_buyer : {d : Deed} → Taken room R d ks xs → BuyerVouched T (buyer_signature R ks xs)
+    forged_buyer t =
+        item_of t (BuyerVouched T) Item.p buyer_signed_in (record { signer = no_buyer; slip = slip R ks xs; mark = mark R ks xs }) copied_buyer
         (λ g h. absurd (h refl))
 
-    forged-seller : {d : Deed} → Taken room R d ks xs → SellerVouched T (request_signature R ks xs)
-    forged-seller t =
+    forged_seller : {d : Deed} → Taken room R d ks xs → SellerVouched T (request_signature R ks xs)
+    forged_seller t =
         item_of t (SellerVouched T) Item.q request_signed_in (record { signer = no_seller; mark = mark R ks xs; slip = slip R ks xs })
-        (λ w m y h. seller-grows grows ((sound_as R AuthRequest w (sound w m) y).1.1 h)) (λ g h. absurd (h refl))
+        (λ w m y h. seller_grows grows ((sound_as R AuthRequest w (sound w m) y).1.1 h)) (λ g h. absurd (h refl))
 
-    added-sound : (d : Deed) → (added R ks xs answers d ∈ T) → Taken room R d ks xs → Sound T (added R ks xs answers d)
-    added-sound starts new t = record { kind = Initiate; laid = refl; sent = λ e. e; vouched = tt }
-    added-sound invoices new t = invoice-sound t
-    added-sound (pays key) new t = payment-sound key new t
-    added-sound asks new t = request-sound new t
-    added-sound replies new t = record { kind = AuthResponse; laid = refl; sent = λ e. e; vouched = tt }
-    added-sound (forges Initiate) new t = record { kind = Initiate; laid = refl; sent = λ e. refl; vouched = tt }
-    added-sound (forges Invoice) new t = record { kind = Invoice; laid = refl; sent = λ e. refl; vouched = λ h. absurd (h refl) }
-    added-sound (forges Payment) new t = record { kind = Payment; laid = refl; sent = λ e. refl; vouched = forged-buyer t }
-    added-sound (forges AuthRequest) new t =
-        record { kind = AuthRequest; laid = refl; sent = λ e. refl; vouched = (forged-buyer t, forged-seller t) }
-    added-sound (forges AuthResponse) new t = record { kind = AuthResponse; laid = refl; sent = λ e. refl; vouched = tt }
+    added_sound : (d : Deed) → (added R ks xs answers d ∈ T) → Taken room R d ks xs → Sound T (added R ks xs answers d)
+    added_sound starts new t = record { kind = Initiate; laid = refl; sent = λ e. e; vouched = tt }
+    added_sound invoices new t = invoice_sound t
+    added_sound (pays key) new t = payment_sound key new t
+    added_sound asks new t = request_sound new t
+    added_sound replies new t = record { kind = AuthResponse; laid = refl; sent = λ e. e; vouched = tt }
+    added_sound (forges Initiate) new t = record { kind = Initiate; laid = refl; sent = λ e. refl; vouched = tt }
+    added_sound (forges Invoice) new t = record { kind = Invoice; laid = refl; sent = λ e. refl; vouched = λ h. absurd (h refl) }
+    added_sound (forges Payment) new t = record { kind = Payment; laid = refl; sent = λ e. refl; vouched = forged_buyer t }
+    added_sound (forges AuthRequest) new t =
+        record { kind = AuthRequest; laid = refl; sent = λ e. refl; vouched = (forged_buyer t, forged_seller t) }
+    added_sound (forges AuthResponse) new t = record { kind = AuthResponse; laid = refl; sent = λ e. refl; vouched = tt }
 
 step_sound : (room : ℕ) (R : Record) (c : Call) (x : Message) → AllSound R → judge_call room R c ≡ accepted x → AllSound (R ++ (x ∷ []))
 step_sound room R c x sound e w m =
-    ⊎_elim (λ old. sound-grows (λ y. Memᴰ.append_left (x ∷ [])) w (sound w old))
-    (λ new. subst (Sound (R ++ (x ∷ []))) (sym (Memᴰ.eq_of_singleton new)) new-sound) (Memᴰ.append_cases R m)
+    ⊎_elim (λ old. sound_grows (λ y. Memᴰ.append_left (x ∷ [])) w (sound w old))
+    (λ new. subst (Sound (R ++ (x ∷ []))) (sym (Memᴰ.eq_of_singleton new)) new_sound) (Memᴰ.append_cases R m)
   where
-    new-sound : Sound (R ++ (x ∷ [])) x
-    new-sound =
+    new_sound : Sound (R ++ (x ∷ [])) x
+    new_sound =
         by_deed c.answers room R c.step x (λ (y : Message). Sound (R ++ (y ∷ [])) y) e
         (λ d ks xs.
-        added-sound c.answers room R ks xs sound (R ++ (added R ks xs c.answers d ∷ []))
+        added_sound c.answers room R ks xs sound (R ++ (added R ks xs c.answers d ∷ []))
         (λ y. Memᴰ.append_left (added R ks xs c.answers d ∷ [])) d (Memᴰ.append_right R (Memᴰ.head refl)))
 
 -- every message of a reached record is sound
 pub reached_sound : (room : ℕ) (R : Record) → Reached room R → AllSound R
-reached_sound room R r = kept-reached room AllSound (step_sound room) R r (λ w m. absurd (Memᴰ.not-nil m))
+reached_sound room R r = kept_reached room AllSound (step_sound room) R r (λ w m. absurd (Memᴰ.not-nil m))
 
 -- so each has as many numbers as a message
 pub reached_full : (room : ℕ) (R : Record) → Reached room R → AllLong message_width R

@@ -40,13 +40,13 @@ module _ (answers : ℕ) (t xs : List ℕ) (ran : Ran) where
 
   pub record Kept : Type 0 where
     -- they are the record that the steps lead to; and the verdict byte of each step is its number against what the steps before it left
-    pub messages-left : left ≡ left_by (steps_of xs)
+    pub messages_left : left ≡ left_by (steps_of xs)
     pub verdict : (ss : List Step) (s : Step) (ts : List Step) → steps_of xs ≡ ss ++ (s ∷ ts)
         → get_or ran.verdict_bytes (length ss) 0 ≡ number_of (judge answers (room_of t) (left_by ss) s)
     -- so the table holds a reached record, and what is said below can be said again of whatever steps and runs leave from it
     pub held : HoldsReached ran.n ran.table
     -- every message is lawful, so a step on the table is judged as the run would judge it
-    pub lawful-left : lawful_record ran.n ran.table ≡ true
+    pub lawful_left : lawful_record ran.n ran.table ≡ true
     pub judged : (s : Step) → judge_table answers ran.n ran.table s ≡ judge answers (room_of t) left s
     -- agreement at each house reply whose buyer and seller are not both the outsider
     pub agreed : (p : Place) → HouseReplyAt left p → ¬ BothOutside (payment_at left p) → Agreed (payment_at left p) (earlier left p)

@@ -13,8 +13,8 @@ use Rattle.messages.specs.Layout.{flat, message_width}
 use Rattle.messages.specs.Parts.{Message}
 use lib.Dec.{eqb, leb}
 use Rattle.record.specs.Table.{Record, messages, most_room, room_of, whole, with_message}
-use Rattle.rules.proofs.Accepted.{is-accepted}
-use Rattle.rules.proofs.Runs.{verdicts-length}
+use Rattle.rules.proofs.Accepted.{is_accepted}
+use Rattle.rules.proofs.Runs.{verdicts_length}
 use Rattle.rules.specs.Run.{called, over, played, step_count, step_width, steps_of, verdicts}
 use Rattle.rules.specs.Step.{Outcome, Step, accepted, judge, number_of, record_after, refused}
 use Rattle.runs.specs.Ran.{OnePlayed, Plays}
@@ -35,11 +35,11 @@ one_refused n t (refused j) k left w = record { judged = w.number; counted = ref
 -- an accepted step had room
 had_room : (answers n : ℕ) (t s : List ℕ) (x : Message) → judge answers (room_of t) (messages n t) s ≡ accepted x → n < room_of t
 had_room answers n t s x e =
-    subst (λ (k : ℕ). k < room_of t) (length_cut message_width n t) (is-accepted answers (room_of t) (messages n t) s x e).passed.roomy
+    subst (λ (k : ℕ). k < room_of t) (length_cut message_width n t) (is_accepted answers (room_of t) (messages n t) s x e).passed.roomy
 
 -- the record and the table after one step
 record Next (n : ℕ) (t : List ℕ) (o : Outcome) (count : ℕ) (left : List ℕ) : Type 0 where
-  messages-left : messages count left ≡ record_after (messages n t) o
+  messages_left : messages count left ≡ record_after (messages n t) o
   beyond : drop (count * message_width) left ≡ drop (count * message_width) t
   grows : n ≤ count
   room : count ≤ room_of t
@@ -57,7 +57,7 @@ after : (n : ℕ) (t : List ℕ) (o : Outcome) (k count : ℕ) (left : List ℕ)
     → length left ≡ length t → OnePlayed n t o k count left → Next n t o count left
 after n t (refused j) k count left h r l w =
     record {
-      messages-left = ap₂ messages w.counted w.table;
+      messages_left = ap₂ messages w.counted w.table;
       beyond = ap (drop (count * message_width)) w.table;
       grows = le_of_eq (sym w.counted);
       room = subst (λ (c : ℕ). c ≤ room_of t) (sym w.counted) r;
@@ -70,7 +70,7 @@ after n t (accepted x) k count left h r l w =
     let front : length (take (n * message_width) t ++ x) ≡ n * message_width + message_width =
     length-append (take (n * message_width) t) x ∙ ap₂ ◌+◌ (length-take-le (n * message_width) t (omega arith)) long in
     record {
-      messages-left =
+      messages_left =
           ap₂ messages (w.counted ∙ add-one n) w.table ∙ messages_with n t x (omega arith) long;
       beyond =
           ap₂ (λ (c : ℕ) (z : List ℕ). drop c z) next w.table
@@ -88,7 +88,7 @@ pub record Going (answers : ℕ) (t₀ xs bytes₀ t bytes : List ℕ) (n i : �
   pub room : n ≤ room_of t₀
   pub beyond : drop (n * message_width) t ≡ drop (n * message_width) t₀
   pub finish : played answers (room_of t₀) (messages n t) (drop i (steps_of xs)) ≡ played answers (room_of t₀) [] (steps_of xs)
-  pub to-come : verdicts answers (room_of t₀) (messages n t) (drop i (steps_of xs)) ≡ drop i (verdicts answers (room_of t₀) [] (steps_of xs))
+  pub to_come : verdicts answers (room_of t₀) (messages n t) (drop i (steps_of xs)) ≡ drop i (verdicts answers (room_of t₀) [] (steps_of xs))
   pub so_far : bytes ≡ paste bytes₀ 0 (verdicts answers (room_of t₀) [] (steps_of xs)) i
 
 pub begin : (answers : ℕ) (t xs bytes : List ℕ) → Going answers t xs bytes t bytes 0 0
@@ -100,7 +100,7 @@ begin answers t xs bytes =
       room = omega arith;
       beyond = refl;
       finish = refl;
-      to-come = refl;
+      to_come = refl;
       so_far = paste-zero bytes 0 (verdicts answers (room_of t) [] (steps_of xs));
     }
 
@@ -110,8 +110,8 @@ step_at xs i h = cut_at step_width (step_count xs) xs i h
 
 module _ (answers : ℕ) (t₀ xs bytes₀ t bytes : List ℕ) (n i : ℕ) (going : Going answers t₀ xs bytes₀ t bytes n i) (more : i < step_count xs)
     (fits : step_count xs ≤ length bytes₀) (s : Step) (named : s ≡ get_or (steps_of xs) i []) where
-  room-kept : room_of t ≡ room_of t₀
-  room-kept = ap (λ (l : ℕ). l / message_width) going.long
+  room_kept : room_of t ≡ room_of t₀
+  room_kept = ap (λ (l : ℕ). l / message_width) going.long
 
   said : List ℕ
   said = verdicts answers (room_of t₀) [] (steps_of xs)
@@ -131,32 +131,32 @@ module _ (answers : ℕ) (t₀ xs bytes₀ t bytes : List ℕ) (n i : ℕ) (goin
   -- this step's number, and those to come
   all_said : number_of outcome ∷ verdicts answers (room_of t₀) (record_after (messages n t) outcome) rest ≡ drop i said
   unfolding verdicts outcome said
-  all_said = sym (ap (verdicts answers (room_of t₀) (messages n t)) split) ∙ going.to-come
+  all_said = sym (ap (verdicts answers (room_of t₀) (messages n t)) split) ∙ going.to_come
 
   pub turn : (k count : ℕ) (left : List ℕ) → length left ≡ length t
       → OnePlayed n t (judge answers (room_of t) (messages n t) s) k count left → Going answers t₀ xs bytes₀ left (set bytes i k) count (i + 1)
   unfolding played called outcome said rest
   turn k count left l w =
       let o = judge answers (room_of t₀) (messages n t) s in
-      let w' : OnePlayed n t o k count left = subst (λ (r : ℕ). OnePlayed n t (judge answers r (messages n t) s) k count left) room-kept w in
+      let w' : OnePlayed n t o k count left = subst (λ (r : ℕ). OnePlayed n t (judge answers r (messages n t) s) k count left) room_kept w in
       let next : Next n t o count left =
       after n t o k count left
-      (λ (x : Message) (e : o ≡ accepted x). had_room answers n t s x (ap (λ (r : ℕ). judge answers r (messages n t) s) room-kept ∙ e))
-      (subst (λ (r : ℕ). n ≤ r) (sym room-kept) going.room) l w' in
+      (λ (x : Message) (e : o ≡ accepted x). had_room answers n t s x (ap (λ (r : ℕ). judge answers r (messages n t) s) room_kept ∙ e))
+      (subst (λ (r : ℕ). n ≤ r) (sym room_kept) going.room) l w' in
       let number : k ≡ get_or said i 0 =
       w'.judged ∙ ap (λ (z : List ℕ). get_or z 0 0) all_said ∙ get_or-drop i said 0 0 ∙ ap (λ (j : ℕ). get_or said j 0) (add-zero i) in
-      let many : length said ≡ step_count xs = verdicts-length answers (room_of t₀) [] (steps_of xs) ∙ length_cut step_width (step_count xs) xs in
+      let many : length said ≡ step_count xs = verdicts_length answers (room_of t₀) [] (steps_of xs) ∙ length_cut step_width (step_count xs) xs in
       record {
         long = l ∙ going.long;
         as_many = length-set bytes i k ∙ going.as_many;
         upto = omega arith;
-        room = subst (λ (r : ℕ). count ≤ r) room-kept next.room;
+        room = subst (λ (r : ℕ). count ≤ r) room_kept next.room;
         beyond = next.beyond ∙ further n count t t₀ next.grows going.beyond;
         finish =
-            ap (λ (R : Record). played answers (room_of t₀) R rest) next.messages-left
+            ap (λ (R : Record). played answers (room_of t₀) R rest) next.messages_left
             ∙ sym (ap (played answers (room_of t₀) (messages n t)) split) ∙ going.finish;
-        to-come =
-            ap (λ (R : Record). verdicts answers (room_of t₀) R rest) next.messages-left
+        to_come =
+            ap (λ (R : Record). verdicts answers (room_of t₀) R rest) next.messages_left
             ∙ ap (drop 1) all_said ∙ drop-drop 1 i said;
         so_far =
             ap₂ (λ (z : List ℕ) (j : ℕ). set z i j) going.so_far number
@@ -189,7 +189,7 @@ pub over_and_done : (answers : ℕ) (t₀ xs bytes₀ t bytes : List ℕ) (n i :
 unfolding played called
 over_and_done answers t₀ xs bytes₀ t bytes n i going e =
     let said = verdicts answers (room_of t₀) [] (steps_of xs) in
-    let many : length said ≡ i = verdicts-length answers (room_of t₀) [] (steps_of xs) ∙ length_cut step_width (step_count xs) xs ∙ sym e in
+    let many : length said ≡ i = verdicts_length answers (room_of t₀) [] (steps_of xs) ∙ length_cut step_width (step_count xs) xs ∙ sym e in
     let none : drop i (steps_of xs) ≡ [] =
     drop_of_length-le (steps_of xs) {i = i} (le_of_eq (length_cut step_width (step_count xs) xs ∙ sym e)) in
     let record_is : messages n t ≡ played answers (room_of t₀) [] (steps_of xs) =
@@ -198,11 +198,11 @@ over_and_done answers t₀ xs bytes₀ t bytes n i going e =
     ap length (flat_cut n t) ∙ length-take-le (n * message_width) t (omega (arith, going.room, going.long)) in
     record {
       counted = sym (length_cut message_width n t) ∙ ap length record_is;
-      record-left =
+      table_left =
           sym (take-append-drop (n * message_width) t)
           ∙ ap₂ ◌++◌ (sym (flat_cut n t)) (going.beyond ∙ ap (λ (k : ℕ). drop k t₀) (sym long))
           ∙ ap (λ (R : Record). over (flat R) t₀) record_is;
-      verdicts-left =
+      verdicts_left =
           going.so_far
           ∙ ap₂ (λ (z : List ℕ) (k : ℕ). z ++ drop k bytes₀) (take_all i said (le_of_eq many)) (zero-add i ∙ sym many);
       within = going.room;

@@ -21,11 +21,11 @@ module _ (answers : ℕ) (t xs bytes : List ℕ) where
   unfolding nothing
   refuses k h e =
       subst (λ (o : RanOf). Leaves o (Refused k) t bytes) (sym e)
-      (record { number = refl; n = refl; told-apart = h; table-left = refl; bytes_left = refl; small = zero-le })
+      (record { number = refl; n = refl; told_apart = h; table_left = refl; bytes_left = refl; small = zero-le })
 
-  pub not-whole : whole t ≡ false → Leaves (run answers t xs bytes) (Refused 1) t bytes
+  pub not_whole : whole t ≡ false → Leaves (run answers t xs bytes) (Refused 1) t bytes
   unfolding run nothing
-  not-whole e = refuses 1 refl (sym (no _ e refl))
+  not_whole e = refuses 1 refl (sym (no _ e refl))
 
   module _ (a : whole t ≡ true) where
     pub no_steps : whole_steps xs ≡ false → Leaves (run answers t xs bytes) (Refused 8) t bytes
@@ -45,8 +45,8 @@ module _ (answers : ℕ) (t xs bytes : List ℕ) where
           (record {
             number = refl;
             n = w.counted;
-            told-apart = refl;
-            table-left = w.record-left;
-            bytes_left = w.verdicts-left;
+            told_apart = refl;
+            table_left = w.table_left;
+            bytes_left = w.verdicts_left;
             small = omega (arith, w.within, most t a);
           })

@@ -24,8 +24,8 @@ pub record Leaves (o : RanOf) (r : Ran) (table bytes : List ℕ) : Type 0 where
   pub number : ran_number r ≡ o.number
   pub n : ran_count r ≡ o.n
   -- an empty record is told from a refusal
-  pub told-apart : is_refused r ≡ not (eqb o.number 0)
-  pub table-left : table ≡ o.table
+  pub told_apart : is_refused r ≡ not (eqb o.number 0)
+  pub table_left : table ≡ o.table
   pub bytes_left : bytes ≡ o.verdict_bytes
   -- so n fits 16 bits
   pub small : ran_count r ≤ most_room
@@ -39,6 +39,6 @@ pub record OnePlayed (n : ℕ) (t : List ℕ) (o : Outcome) (number count : ℕ)
 -- of a run that is not refused
 pub record Plays (answers : ℕ) (t xs bytes : List ℕ) (n : ℕ) (table bytes_left : List ℕ) : Type 0 where
   pub counted : n ≡ length (played answers (room_of t) [] (steps_of xs))
-  pub record-left : table ≡ over (flat (played answers (room_of t) [] (steps_of xs))) t
-  pub verdicts-left : bytes_left ≡ over (verdicts answers (room_of t) [] (steps_of xs)) bytes
+  pub table_left : table ≡ over (flat (played answers (room_of t) [] (steps_of xs))) t
+  pub verdicts_left : bytes_left ≡ over (verdicts answers (room_of t) [] (steps_of xs)) bytes
   pub within : n ≤ room_of t

@@ -45,22 +45,22 @@ module _ (l : Text) where
   abbrev tests : List Bool
   tests = is_ended l ∷ same (take 2 l) answers_start ∷ is_number (drop 2 (body l)) ∷ []
 
-  pub no-answers : (k : ℕ) → get_or tests k true ≡ false → Unreadable ≡ answers_said l
+  pub no_answers : (k : ℕ) → get_or tests k true ≡ false → Unreadable ≡ answers_said l
   unfolding is_answers_line
-  no-answers k e = ap (λ (b : Bool). cond b (Is (answers_in l)) Unreadable) (sym (fails tests k e))
+  no_answers k e = ap (λ (b : Bool). cond b (Is (answers_in l)) Unreadable) (sym (fails tests k e))
 
   pub too_short : length l - 1 < 2 → Unreadable ≡ answers_said l
   too_short h =
-      no-answers 2
+      no_answers 2
       (ap is_number (drop_of_length-le (body l) {i = 2} (omega (arith, length-take (length l - 1) l))) ∙ no_number)
 
-  pub other-start : 2 ≤ length l → (k : ℕ) → get_or (starting l) k true ≡ false → Unreadable ≡ answers_said l
-  other-start h k e = no-answers 1 (starts l h ∙ fails (starting l) k e)
+  pub other_start : 2 ≤ length l → (k : ℕ) → get_or (starting l) k true ≡ false → Unreadable ≡ answers_said l
+  other_start h k e = no_answers 1 (starts l h ∙ fails (starting l) k e)
 
-  pub answers-read : is_ended l ≡ true → 2 ≤ length l - 1 → get_or l 0 0 ≡ letter_a → get_or l 1 0 ≡ tab
+  pub answers_read : is_ended l ≡ true → 2 ≤ length l - 1 → get_or l 0 0 ≡ letter_a → get_or l 1 0 ≡ tab
       → number_in (take (length l - 1 - 2) (drop 2 l)) ≡ answers_said l
   unfolding is_answers_line answers_in
-  answers-read e h a t =
+  answers_read e h a t =
       let given : is_number (drop 2 (body l)) ≡ every tests =
       skip e (skip (starts l (omega arith) ∙ sym (skip (eq-eqb _ _ a) (last (sym (eq-eqb _ _ t))))) (last refl)) in
       ap number_in (sym (part_of 2 (length l - 1) l h))
@@ -74,11 +74,11 @@ pub record Going (xs : Text) (numbers : List ℕ) (count at : ℕ) : Type 0 wher
   pub readable : all is_number (parts (drop at xs)) ≡ all is_number (parts xs)
   pub values : map value_of (parts xs) ≡ done ++ map value_of (parts (drop at xs))
   pub as_many : length done ≡ count
-  pub filled-up : numbers ≡ filled step_width 0 done
+  pub filled_up : numbers ≡ filled step_width 0 done
 
 pub begin : (xs : Text) → Going xs (replicate step_width 0) 0 0
 begin xs =
-    record { done = []; upto = omega arith; readable = refl; values = refl; as_many = refl; filled-up = refl }
+    record { done = []; upto = omega arith; readable = refl; values = refl; as_many = refl; filled_up = refl }
 
 -- the next zero is replaced
 next_filled : (done : List ℕ) (v : ℕ) → length done < step_width
@@ -139,31 +139,31 @@ module _ (xs : Text) (numbers : List ℕ) (count at : ℕ) (going : Going xs num
       ∙ ap (λ (z : Text). z ∷ []) (sym (take_all (end - at) (drop at xs) (omega arith)))
 
   -- in both cases it is the first
-  first-here : (b : Bool) → leb (length xs) end ≡ b → (rest : List Text) × (parts (drop at xs) ≡ here ∷ rest)
-  first-here true e =
+  first_here : (b : Bool) → leb (length xs) end ≡ b → (rest : List Text) × (parts (drop at xs) ≡ here ∷ rest)
+  first_here true e =
       let w = before_within tab (drop at xs) in
       ([], alone (let h = leb-true (length xs) end e in omega (arith, w, length-drop at xs, going.upto)))
-  first-here false e = (parts (drop (end + 1) xs), split (leb-false (length xs) end e))
+  first_here false e = (parts (drop (end + 1) xs), split (leb-false (length xs) end e))
 
-  pub said-no : Unreadable ≡ number_in here → unread ≡ numbers_said xs
-  said-no e =
-      let f = first-here (leb (length xs) end) refl in
+  pub said_no : Unreadable ≡ number_in here → unread ≡ numbers_said xs
+  said_no e =
+      let f = first_here (leb (length xs) end) refl in
       let no : false ≡ all is_number (parts xs) =
       ap (λ (b : Bool). b && all is_number f.0) (sym (not_read here e)) ∙ ap (all is_number) (sym f.1) ∙ going.readable in
       ap
       (λ (b : Bool). cond (b && (leb (length (parts xs)) step_width && true)) (read_as (filled step_width 0 (map value_of (parts xs)))) unread)
       no
 
-  values-split : (v : ℕ) (rest : List Text) → v ≡ value_of here → parts (drop at xs) ≡ here ∷ rest
+  values_split : (v : ℕ) (rest : List Text) → v ≡ value_of here → parts (drop at xs) ≡ here ∷ rest
       → map value_of (parts xs) ≡ (going.done ++ v ∷ []) ++ map value_of rest
-  values-split v rest e f =
+  values_split v rest e f =
       going.values ∙ ap (λ (z : List Text). going.done ++ map value_of z) f
       ∙ ap (λ (k : ℕ). going.done ++ k ∷ map value_of rest) (sym e)
       ∙ sym (append_assoc going.done (v ∷ []) (map value_of rest))
 
   one_more : (v : ℕ) → set numbers count v ≡ filled step_width 0 (going.done ++ v ∷ [])
   one_more v =
-      ap₂ (λ (z : List ℕ) (k : ℕ). set z k v) going.filled-up (sym going.as_many)
+      ap₂ (λ (z : List ℕ) (k : ℕ). set z k v) going.filled_up (sym going.as_many)
       ∙ next_filled going.done v (subst (λ (k : ℕ). k < step_width) (sym going.as_many) more)
 
   pub turn : (v : ℕ) → Is v ≡ number_in here → end < length xs → Going xs (set numbers count v) (count + 1) (end + 1)
@@ -174,16 +174,16 @@ module _ (xs : Text) (numbers : List ℕ) (count at : ℕ) (going : Going xs num
         upto = omega arith;
         readable =
             skip r.0 refl ∙ ap (all is_number) (sym (split h)) ∙ going.readable;
-        values = values-split v (parts (drop (end + 1) xs)) r.1 (split h);
+        values = values_split v (parts (drop (end + 1) xs)) r.1 (split h);
         as_many = length-append going.done (v ∷ []) ∙ ap (λ (k : ℕ). k + 1) going.as_many;
-        filled-up = one_more v;
+        filled_up = one_more v;
       }
 
   pub said_all : (v : ℕ) → Is v ≡ number_in here → end ≡ length xs → read_as (set numbers count v) ≡ numbers_said xs
   said_all v e h =
       let r = is_read_lem here v e in
       let yes : true ≡ all is_number (parts xs) = skip r.0 refl ∙ ap (all is_number) (sym (alone h)) ∙ going.readable in
-      let vs : map value_of (parts xs) ≡ going.done ++ v ∷ [] = values-split v [] r.1 (alone h) ∙ append-nil (going.done ++ v ∷ []) in
+      let vs : map value_of (parts xs) ≡ going.done ++ v ∷ [] = values_split v [] r.1 (alone h) ∙ append-nil (going.done ++ v ∷ []) in
       let many : length (parts xs) ≤ step_width =
       omega (arith, length-map (parts xs) value_of, ap length vs, length-append going.done (v ∷ []), going.as_many) in
       ap read_as (one_more v ∙ ap (filled step_width 0) (sym vs))
@@ -222,12 +222,12 @@ module _ (l : Text) where
   abbrev numbered : Bool
   numbered = every (all is_number (parts (body l)) ∷ leb (length (parts (body l))) step_width ∷ [])
 
-  pub said-unended : is_ended l ≡ false → unread ≡ step_said l
+  pub said_unended : is_ended l ≡ false → unread ≡ step_said l
   unfolding is_step_line
-  said-unended e = ap (λ (b : Bool). cond (b && numbered) (read_as (step_in l)) unread) (sym e)
+  said_unended e = ap (λ (b : Bool). cond (b && numbered) (read_as (step_in l)) unread) (sym e)
 
-  pub said-ended : is_ended l ≡ true → numbers_said (take (length l - 1 - 0) l) ≡ step_said l
+  pub said_ended : is_ended l ≡ true → numbers_said (take (length l - 1 - 0) l) ≡ step_said l
   unfolding is_step_line step_in
-  said-ended e =
+  said_ended e =
       let k : length l - 1 - 0 ≡ length l - 1 = omega arith in
       ap (λ (j : ℕ). numbers_said (take j l)) k ∙ ap (λ (b : Bool). cond (b && numbered) (read_as (step_in l)) unread) (sym e)

@@ -93,15 +93,15 @@ module _ (answers n : ℕ) (t s : List ℕ) where
       unfolding placed_in
       ready w h = record { known = w; room = h; places = opened.1 }
 
-      pub past-arguments : judge answers (room_of t) (messages n t) s ≡ decided answers n t s
+      pub past_arguments : judge answers (room_of t) (messages n t) s ≡ decided answers n t s
       unfolding outcome
-      past-arguments =
+      past_arguments =
           unfolded ∙ sym (yes _ k refl) ∙ sym (yes _ opened.0 refl) ∙ sym (yes _ opened.1 refl) ∙ sym (yes _ opened.2 refl)
 
   -- what is left when the arguments are good
-  pub not-allowed : allowed_in n t s ≡ false → decided answers n t s ≡ refused 6
+  pub not_allowed : allowed_in n t s ≡ false → decided answers n t s ≡ refused 6
   unfolding decided
-  not-allowed e = sym (no _ e refl)
+  not_allowed e = sym (no _ e refl)
 
   module _ (allowed : allowed_in n t s ≡ true) where
     pub full : ltb n (room_of t) ≡ false → decided answers n t s ≡ refused 7

@@ -93,41 +93,41 @@ told_says o t answers count ss e n h g =
 
 -- the next line, by what it is
 module _ (answers : ℕ) (ss : List Step) (l : Text) (ls : List Text) where
-  next-unreadable : is_step_line l ≡ false → unreadable (length ss + 2) ≡ read_steps answers ss (l ∷ ls)
+  next_unreadable : is_step_line l ≡ false → unreadable (length ss + 2) ≡ read_steps answers ss (l ∷ ls)
   unfolding read_steps
-  next-unreadable h = sym (simp h)
+  next_unreadable h = sym (simp h)
 
-  next-too-many : is_step_line l ≡ true → most_steps ≤ length ss → too_long ≡ read_steps answers ss (l ∷ ls)
+  next_too_many : is_step_line l ≡ true → most_steps ≤ length ss → too_long ≡ read_steps answers ss (l ∷ ls)
   unfolding read_steps
-  next-too-many h k = sym (simp (h, le-ltb (length ss) most_steps k))
+  next_too_many h k = sym (simp (h, le-ltb (length ss) most_steps k))
 
-  next-step : is_step_line l ≡ true → length ss < most_steps
+  next_step : is_step_line l ≡ true → length ss < most_steps
       → read_steps answers (ss ++ step_in l ∷ []) ls ≡ read_steps answers ss (l ∷ ls)
   unfolding read_steps
-  next-step h k = sym (simp (h, lt-ltb (length ss) most_steps k))
+  next_step h k = sym (simp (h, lt-ltb (length ss) most_steps k))
 
 module _ (text : Text) (from answers : ℕ) (t₀ t : List ℕ) (at count : ℕ) (going : Going text from answers t₀ t at count) where
   module _ (more : at < length text) (l : Text) (named : l ≡ line_at text at) where
     rest : List Text
     rest = lines (drop (at + length l) text)
 
-    from-here : read_steps answers going.done (l ∷ rest) ≡ read_steps answers [] (lines (drop from text))
+    from_here : read_steps answers going.done (l ∷ rest) ≡ read_steps answers [] (lines (drop from text))
     unfolding rest
-    from-here =
+    from_here =
         ap (read_steps answers going.done)
         (sym (lines_from text at more ∙ ap (λ (z : Text). z ∷ lines (drop (at + length z) text)) (sym named)))
         ∙ going.finish
 
-    pub refused-line : is_step_line l ≡ false → Gathers (read_steps answers [] (lines (drop from text))) (Unreadable (count + 2)) t
-    refused-line h =
+    pub refused_line_lem : is_step_line l ≡ false → Gathers (read_steps answers [] (lines (drop from text))) (Unreadable (count + 2)) t
+    refused_line_lem h =
         told_unreadable _ t (count + 2)
-        (ap (λ (k : ℕ). unreadable (k + 2)) (sym going.as_many) ∙ next-unreadable answers going.done l rest h ∙ from-here)
+        (ap (λ (k : ℕ). unreadable (k + 2)) (sym going.as_many) ∙ next_unreadable answers going.done l rest h ∙ from_here)
         (omega (arith, going.few))
 
-    pub refused-text : is_step_line l ≡ true → count ≡ most_steps → Gathers (read_steps answers [] (lines (drop from text))) TooLong t
-    refused-text h k =
+    pub refused_text : is_step_line l ≡ true → count ≡ most_steps → Gathers (read_steps answers [] (lines (drop from text))) TooLong t
+    refused_text h k =
         told_too_long _ t
-        (next-too-many answers going.done l rest h (omega (arith, going.as_many)) ∙ from-here)
+        (next_too_many answers going.done l rest h (omega (arith, going.as_many)) ∙ from_here)
 
     pub turn : is_step_line l ≡ true → (count ≡ most_steps → ⊥) → most_steps * step_width ≤ length t₀ → (left : List ℕ)
         → left ≡ with_numbers (count * step_width) t (step_in l) → length left ≡ length t → Going text from answers t₀ left (at + length l) (count + 1)
@@ -146,7 +146,7 @@ module _ (text : Text) (from answers : ℕ) (t₀ t : List ℕ) (at count : ℕ)
           few = omega (arith, going.few);
           as_many = length-append going.done (s ∷ []) ∙ ap (λ (n : ℕ). n + 1) going.as_many;
           finish =
-              next-step answers going.done l rest h (omega (arith, going.as_many, going.few)) ∙ from-here;
+              next_step answers going.done l rest h (omega (arith, going.as_many, going.few)) ∙ from_here;
           gathered =
               ap (take ((count + 1) * step_width)) w
               ∙ take_at (take (count * step_width) t ++ s) (drop (count * step_width + length s) t) ((count + 1) * step_width) front

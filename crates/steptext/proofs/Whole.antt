@@ -67,24 +67,24 @@ front : (t xs : List ℕ) → with_numbers 0 t xs ≡ over xs t
 front t xs = ap (λ (k : ℕ). xs ++ drop k t) (zero-add (length xs))
 
 module _ (t : Text) (steps : List ℕ) where
-  leaves-too-long : too_long ≡ read_text (length steps) t → Leaves (read_text (length steps) t) steps TooLong steps
-  leaves-too-long e =
+  leaves_too_long : too_long ≡ read_text (length steps) t → Leaves (read_text (length steps) t) steps TooLong steps
+  leaves_too_long e =
       subst (λ (o : Reading). Leaves o steps TooLong steps) e
       (record {
         tells = record { number = refl; answers = refl; count = refl; line = refl; few = omega arith; near = omega arith };
         table = refl;
       })
 
-  pub too-many-bytes : most_bytes < length t → Leaves (read_text (length steps) t) steps TooLong steps
+  pub too_many_bytes : most_bytes < length t → Leaves (read_text (length steps) t) steps TooLong steps
   unfolding read_text
-  too-many-bytes h =
-      leaves-too-long
+  too_many_bytes h =
+      leaves_too_long
       (ap (λ (b : Bool). cond (b && leb (most_steps * step_width) (length steps)) (read_lines (lines t)) too_long) (sym (lt-leb (length t) most_bytes h)))
 
   pub too_short : length steps < most_steps * step_width → Leaves (read_text (length steps) t) steps TooLong steps
   unfolding read_text
   too_short h =
-      leaves-too-long
+      leaves_too_long
       (ap (λ (b : Bool). cond b (read_lines (lines t)) too_long)
       (sym (ap (λ (b : Bool). leb (length t) most_bytes && b) (lt-leb (most_steps * step_width) (length steps) h)
       ∙ and-false (leb (length t) most_bytes))))
@@ -97,18 +97,18 @@ module _ (t : Text) (steps : List ℕ) where
         (sym (ap (λ (b : Bool). b && leb (most_steps * step_width) (length steps)) (le-leb (length t) most_bytes small)
         ∙ le-leb (most_steps * step_width) (length steps) wide))
 
-    pub unread-first : Unreadable ≡ answers_said (line_at t 0) → Leaves (read_text (length steps) t) steps (UnreadableAt 1) steps
-    unread-first e =
+    pub unread_first : Unreadable ≡ answers_said (line_at t 0) → Leaves (read_text (length steps) t) steps (UnreadableAt 1) steps
+    unread_first e =
         subst (λ (o : Reading). Leaves o steps (UnreadableAt 1) steps) (unread_lines t e ∙ by_lines)
         (record {
           tells = record { number = refl; answers = refl; count = refl; line = refl; few = omega arith; near = omega arith };
           table = refl;
         })
 
-    pub all-gathered : (answers : ℕ) → Is answers ≡ answers_said (line_at t 0) → (read : TextRead) (gathered left : List ℕ)
+    pub all_gathered : (answers : ℕ) → Is answers ≡ answers_said (line_at t 0) → (read : TextRead) (gathered left : List ℕ)
         → Gathers (read_steps answers [] (lines (drop (length (line_at t 0)) t))) read gathered
         → left ≡ with_numbers 0 steps (take (text_count read * step_width - 0) gathered) → Leaves (read_text (length steps) t) steps read left
-    all-gathered answers e read gathered left g w =
+    all_gathered answers e read gathered left g w =
         let o = read_steps answers [] (lines (drop (length (line_at t 0)) t)) in
         let many : text_count read * step_width - 0 ≡ count_of o * step_width = omega (arith, g.tells.count) in
         subst (λ (x : Reading). Leaves x steps read left) (read_lines_lem t answers e ∙ by_lines)

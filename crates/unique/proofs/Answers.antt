@@ -9,7 +9,7 @@ use Rattle.rules.specs.Step.{Outcome, accepted, judge, judge_table, number_of, p
 use Rattle.runs.specs.Ran.{is_refused, ran_count, ran_number}
 use Rattle.runs.specs.declared.run.Ran.{Ran}
 use Rattle.runs.specs.declared.run.Ran.TheVariants.{Messages, Refused as RunRefused}
-use Rattle.rules.proofs.Accepted.{never-zero}
+use Rattle.rules.proofs.Accepted.{never_zero}
 use Rattle.step.proofs.Outcomes.{lawful_judged, unlawful}
 use Rattle.step.specs.Answer.{Answered, answer_number, answer_place}
 use Rattle.step.specs.declared.judge.Answer.{Answer}
@@ -33,21 +33,21 @@ same_answer n o h (Refused k) (Refused k') e f e' f' = ap Refused (e ∙ sym e')
 
 -- of any outcome that is not refused with 0
 module _ (n : ℕ) (t : List ℕ) (o : Outcome) (h : o ≡ refused 0 → ⊥) where
-  answered-same : (r r' : Answer) (left left' : List ℕ) → Answered n t o r left → Answered n t o r' left' → (r ≡ r') × (left ≡ left')
-  answered-same r r' left left' w w' =
+  answered_same : (r r' : Answer) (left left' : List ℕ) → Answered n t o r left → Answered n t o r' left' → (r ≡ r') × (left ≡ left')
+  answered_same r r' left left' w w' =
       (same_answer n o h r r' w.number w.place w'.number w'.place, w.table ∙ sym w'.table)
 
 never_0 : (answers n : ℕ) (t s : List ℕ) (b : Bool) → lawful_record n t ≡ b → judge_table answers n t s ≡ refused 0 → ⊥
-never_0 answers n t s true l e = never-zero answers (room_of t) (messages n t) s (lawful_judged answers n t s l ∙ e)
+never_0 answers n t s true l e = never_zero answers (room_of t) (messages n t) s (lawful_judged answers n t s l ∙ e)
 never_0 answers n t s false l e =
     let z : ◌≡◌ {A = ℕ} 1 0 = ap number_of (sym (unlawful answers n t s l) ∙ e) in
     omega arith
 
 pub step_unique : StepUnique
-step_unique answers n t s = answered-same n t (judge_table answers n t s) (never_0 answers n t s (lawful_record n t) refl)
+step_unique answers n t s = answered_same n t (judge_table answers n t s) (never_0 answers n t s (lawful_record n t) refl)
 
 pub judge_unique : JudgeUnique
-judge_unique answers n t s = answered-same n t (judge answers (room_of t) (messages n t) s) (never-zero answers (room_of t) (messages n t) s)
+judge_unique answers n t s = answered_same n t (judge answers (room_of t) (messages n t) s) (never_zero answers (room_of t) (messages n t) s)
 
 same_ran : (r r' : Ran) → ran_number r ≡ ran_number r' → ran_count r ≡ ran_count r' → is_refused r ≡ is_refused r' → r ≡ r'
 same_ran (Messages n) (Messages n') e f g = ap Messages f
@@ -68,15 +68,15 @@ same_read TooLong TooLong e f g h = refl
 
 pub run_unique : RunUnique
 run_unique answers t xs bytes r r' table table' verdicts verdicts' w w' = (
-  same_ran r r' (w.number ∙ sym w'.number) (w.n ∙ sym w'.n) (w.told-apart ∙ sym w'.told-apart),
-  w.table-left
-      ∙ sym w'.table-left,
+  same_ran r r' (w.number ∙ sym w'.number) (w.n ∙ sym w'.n) (w.told_apart ∙ sym w'.told_apart),
+  w.table_left
+      ∙ sym w'.table_left,
   w.bytes_left ∙ sym w'.bytes_left,
 )
 
 pub played_unique : PlayedUnique
 played_unique answers t xs bytes n n' table table' verdicts verdicts' w w' =
-    (w.counted ∙ sym w'.counted, w.record-left ∙ sym w'.record-left, w.verdicts-left ∙ sym w'.verdicts-left)
+    (w.counted ∙ sym w'.counted, w.table_left ∙ sym w'.table_left, w.verdicts_left ∙ sym w'.verdicts_left)
 
 pub text_unique : TextUnique
 text_unique text t r r' left left' w w' =
@@ -88,4 +88,4 @@ text_unique text t r r' left left' w w' =
 
 pub play_unique : PlayUnique
 play_unique text t out r r' table table' left left' a b =
-    (a.count ∙ sym b.count, a.record-left ∙ sym b.record-left, a.printed ∙ sym b.printed)
+    (a.count ∙ sym b.count, a.table_left ∙ sym b.table_left, a.printed ∙ sym b.printed)

@@ -7,7 +7,7 @@ use Rattle.rules.specs.Honest.{asked, false_gateway, house, invoiced, paid, repl
 use Rattle.rules.specs.Step.{code_of}
 use Rattle.arguments.proofs.Places.{for_table}
 use Rattle.deeds.proofs.Deeds.{deed_of, forges_so, neighbours}
-use Rattle.deeds.proofs.Seven.{at_code, message-there, taken}
+use Rattle.deeds.proofs.Seven.{at_code, message_there, taken}
 use Rattle.deeds.specs.Coded.{added_in}
 use Rattle.deeds.proofs.added.Goals as goal
 
@@ -34,7 +34,7 @@ returns-in-2 c =
     at_code (added_in a.answers a.n a.t.now) a.s.now 2 c.requires.0.known.seven c.in-2.is
     (c.invoiced.ensures
     ∙ ap (invoiced (record { 0 = get_or a.s.now 1 0 }))
-    (message-there c.requires.0 1 (taken c.in-2.is) (omega arith) refl c.named.ensures.0))
+    (message_there c.requires.0 1 (taken c.in-2.is) (omega arith) refl c.named.ensures.0))
 
 pub returns-in-3 : goal.returns-in-3
 returns-in-3 c =
@@ -42,7 +42,7 @@ returns-in-3 c =
     at_code (added_in a.answers a.n a.t.now) a.s.now 3 c.requires.0.known.seven c.in-3.is
     (c.paid.ensures
     ∙ ap (paid house (record { 0 = get_or a.s.now 1 0 }))
-    (message-there c.requires.0 1 (taken c.in-3.is) (omega arith) refl c.named-in-3.ensures.0))
+    (message_there c.requires.0 1 (taken c.in-3.is) (omega arith) refl c.named-in-3.ensures.0))
 
 pub returns-in-4 : goal.returns-in-4
 returns-in-4 c =
@@ -50,15 +50,15 @@ returns-in-4 c =
     at_code (added_in a.answers a.n a.t.now) a.s.now 4 c.requires.0.known.seven c.in-4.is
     (c.asked.ensures
     ∙ ap₂ (asked (record { 0 = get_or a.s.now 1 0 }))
-    (message-there c.requires.0 1 (taken c.in-4.is) (omega arith) refl c.named-in-4.ensures.0)
-    (message-there c.requires.0 2 (taken c.in-4.is) (omega arith) refl c.named-in-4-2.ensures.0))
+    (message_there c.requires.0 1 (taken c.in-4.is) (omega arith) refl c.named-in-4.ensures.0)
+    (message_there c.requires.0 2 (taken c.in-4.is) (omega arith) refl c.named-in-4-2.ensures.0))
 
 pub returns-in-5 : goal.returns-in-5
 returns-in-5 c =
     let a = c.args in
     at_code (added_in a.answers a.n a.t.now) a.s.now 5 c.requires.0.known.seven c.in-5.is
     (c.replied.ensures
-    ∙ ap (replied a.answers) (message-there c.requires.0 0 (taken c.in-5.is) (omega arith) refl c.named-in-5.ensures.0))
+    ∙ ap (replied a.answers) (message_there c.requires.0 0 (taken c.in-5.is) (omega arith) refl c.named-in-5.ensures.0))
 
 pub returns-in-38 : goal.returns-in-38
 returns-in-38 c =
@@ -66,7 +66,7 @@ returns-in-38 c =
     at_code (added_in a.answers a.n a.t.now) a.s.now 38 c.requires.0.known.seven c.in-38.is
     (c.paid-in-38.ensures
     ∙ ap (paid false_gateway (record { 0 = get_or a.s.now 1 0 }))
-    (message-there c.requires.0 1 (taken c.in-38.is) (omega arith) refl c.named-in-38.ensures.0))
+    (message_there c.requires.0 1 (taken c.in-38.is) (omega arith) refl c.named-in-38.ensures.0))
 
 pub returns-in-6-to-7 : goal.returns-in-6-to-7
 returns-in-6-to-7 c =

@@ -19,22 +19,22 @@ there n t k x l h e p = ap (offers k) (message_at_lem n t (record { 0 = x }) l h
 
 pub returns-then-not-yields : goal.returns-then-not-yields
 returns-then-not-yields c =
-    let the-message = c.message in
-    let the-if2 = c.if-n-p in
-    let the-if1 = c.if-p-lt1 in
-    let the-args = c.args in
+    let the_message = c.message in
+    let the_if2 = c.if-n-p in
+    let the_if1 = c.if-p-lt1 in
+    let the_args = c.args in
     let told = failed c.yields.ensures c.if-not-yields.true in
-    yes _ (inside the-if1.false the-if2.false)
-    (no _ (there the-args.n the-args.t.now (argument_lettered the-args.letter) the-args.x the-if1.false the-if2.false
-    the-message.ensures.0 told) refl)
+    yes _ (inside the_if1.false the_if2.false)
+    (no _ (there the_args.n the_args.t.now (argument_lettered the_args.letter) the_args.x the_if1.false the_if2.false
+    the_message.ensures.0 told) refl)
 
 pub returns : goal.returns
 returns c =
-    let the-message = c.message in
-    let the-if2 = c.if-n-p in
-    let the-if1 = c.if-p-lt1 in
-    let the-args = c.args in
+    let the_message = c.message in
+    let the_if2 = c.if-n-p in
+    let the_if1 = c.if-p-lt1 in
+    let the_args = c.args in
     let told = held c.yields.ensures c.if-not-yields.false in
-    yes _ (inside the-if1.false the-if2.false)
-    (yes _ (there the-args.n the-args.t.now (argument_lettered the-args.letter) the-args.x the-if1.false the-if2.false
-    the-message.ensures.0 told) refl)
+    yes _ (inside the_if1.false the_if2.false)
+    (yes _ (there the_args.n the_args.t.now (argument_lettered the_args.letter) the_args.x the_if1.false the_if2.false
+    the_message.ensures.0 told) refl)

@@ -30,20 +30,20 @@ over side l i e h k =
 
 pub loop-i-preserved : goal.loop-i-preserved
 loop-i-preserved c =
-    let the-loop = c.loop-i in
+    let the_loop = c.loop-i in
     let inside = c.loop-i-test.true in
-    let told = of_letter the-loop.i c.span_of-span.result inside c.span_of-span.ensures in (
+    let told = of_letter the_loop.i c.span_of-span.result inside c.span_of-span.ensures in (
       omega arith,
-      simp length-set the-loop.invariant.1,
-      simp length-set the-loop.invariant.2,
-      turn (λ (s : Span). s.0) the-loop.least the-loop.i _ the-loop.invariant.3 (omega arith) inside (told _),
-      turn (λ (s : Span). s.1) the-loop.most the-loop.i _ the-loop.invariant.4 (omega arith) inside (told _),
+      simp length-set the_loop.invariant.1,
+      simp length-set the_loop.invariant.2,
+      turn (λ (s : Span). s.0) the_loop.least the_loop.i _ the_loop.invariant.3 (omega arith) inside (told _),
+      turn (λ (s : Span). s.1) the_loop.most the_loop.i _ the_loop.invariant.4 (omega arith) inside (told _),
     )
 
 pub returns : goal.returns
 returns c =
-    let the-loop = c.loop-i in (
-      over _ the-loop.least the-loop.i the-loop.invariant.3 the-loop.invariant.1 (omega arith),
-      over _ the-loop.most the-loop.i
-          the-loop.invariant.4 the-loop.invariant.2 (omega arith),
+    let the_loop = c.loop-i in (
+      over _ the_loop.least the_loop.i the_loop.invariant.3 the_loop.invariant.1 (omega arith),
+      over _ the_loop.most the_loop.i
+          the_loop.invariant.4 the_loop.invariant.2 (omega arith),
     )

@@ -18,9 +18,9 @@ use Rattle.lawful.specs.Lent.{least_numbers, most_numbers}
 use Rattle.lawful.proofs.in_row.Goals as goal
 
 -- one position further: the number there, and the rest
-fits-from : (rs : List Range) (xs : List ℕ) (i : ℕ) → i < length rs → i < length xs
+fits_from : (rs : List Range) (xs : List ℕ) (i : ℕ) → i < length rs → i < length xs
     → fits (drop i rs) (drop i xs) ≡ (within (get_or rs i unused) (get_or xs i 0) && fits (drop (i + 1) rs) (drop (i + 1) xs))
-fits-from rs xs i h l =
+fits_from rs xs i h l =
     ap₂ fits (drop-cons rs i unused h) (drop-cons xs i 0 l)
     ∙ ap (λ (k : ℕ). within (get_or rs i unused) (get_or xs i 0) && fits (drop k rs) (drop k xs)) (sym (add-one i))
 
@@ -41,18 +41,18 @@ turn k i {least} {most} m good e f h w l =
     ∙ and_assoc good (between a x b) rest
     ∙ ap (λ (z : Bool). good && z)
     (ap₂ (λ (u v : ℕ). between u x v && rest) (of_row _ k i e h l) (of_row _ k i f h l)
-    ∙ sym (fits-from (row_of k) m i (subst (λ (n : ℕ). i < n) (sym (even_at message_width kind_ranges [] rows_even k h)) l) (omega arith)))
+    ∙ sym (fits_from (row_of k) m i (subst (λ (n : ℕ). i < n) (sym (even_at message_width kind_ranges [] rows_even k h)) l) (omega arith)))
 
 pub loop-i-preserved : goal.loop-i-preserved
 loop-i-preserved c =
-    let the-loop-test = c.loop-i-test in
-    let the-loop = c.loop-i in
-    let the-args = c.args in
-    let the-pre = c.requires in (
+    let the_loop_test = c.loop-i-test in
+    let the_loop = c.loop-i in
+    let the_args = c.args in
+    let the_pre = c.requires in (
       omega arith,
-      turn the-args.row the-loop.i the-args.m.now the-loop.good the-pre.0 the-pre.1 the-pre.2 the-pre.3
-          the-loop-test.true
-          ∙ the-loop.invariant.1,
+      turn the_args.row the_loop.i the_args.m.now the_loop.good the_pre.0 the_pre.1 the_pre.2 the_pre.3
+          the_loop_test.true
+          ∙ the_loop.invariant.1,
     )
 
 pub bounds-least-first : goal.bounds-least-first

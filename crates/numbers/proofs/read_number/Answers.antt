@@ -1,7 +1,7 @@
 -- What `numbers::read_number` says at each of its returns.
 use Rattle.std.proofs.Common.{◌+◌, ◌∙◌, arith, sym}
 use Rattle.messages.proofs.Chain.{above, below, inside}
-use Rattle.numbers.proofs.Values.{is-number, no_digit, too_much, unreadable}
+use Rattle.numbers.proofs.Values.{is_number_lem, no_digit, too_much, unreadable}
 use Rattle.numbers.specs.Digits.{digit0, most_digits}
 use Rattle.numbers.proofs.read_number.Goals as goal
 
@@ -30,6 +30,6 @@ returns-then-sum-gt-MOST_NUMBER c =
 
 pub returns : goal.returns
 returns c =
-    is-number c.args.xs.now c.loop-i.sum c.loop-i.i c.loop-i.invariant.reading c.loop-i-test.false
+    is_number_lem c.args.xs.now c.loop-i.sum c.loop-i.i c.loop-i.invariant.reading c.loop-i-test.false
     (inside (omega arith) c.if-xs-gt-MOST_DIGITS.false) (sym c.no_needless_0.ensures ∙ c.if-not-no_needless_0.false)
     c.if-sum-gt-MOST_NUMBER.false

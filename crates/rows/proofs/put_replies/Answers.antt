@@ -12,21 +12,21 @@ use Rattle.rows.proofs.put_replies.Goals as goal
 
 pub loop-p-preserved : goal.loop-p-preserved
 loop-p-preserved c =
-    let the-put-reply = c.put_reply-at in
-    let the-loop = c.loop-p in
-    let the-args = c.args in
-    let the-pre = c.requires in
-    let R = messages the-args.n the-args.t.now in
-    let all-fits = the-pre.0 in (
+    let the_put_reply = c.put_reply-at in
+    let the_loop = c.loop-p in
+    let the_args = c.args in
+    let the_pre = c.requires in
+    let R = messages the_args.n the_args.t.now in
+    let all_fits = the_pre.0 in (
       omega arith,
-      turn (lines_of reply_line (reply_rows R (the-loop.p + 1) (drop (the-loop.p + 1) R))) ((the-loop.p + 1) * reply_widest)
-          (omega (arith, the-loop.invariant.1.put.within)) the-loop.invariant.1
-          (replies_from the-args.t.now the-args.n the-loop.p (omega arith)) the-put-reply.ensures
-          (omega (arith, the-loop.invariant.1.put.within, the-put-reply.ensures.within)),
+      turn (lines_of reply_line (reply_rows R (the_loop.p + 1) (drop (the_loop.p + 1) R))) ((the_loop.p + 1) * reply_widest)
+          (omega (arith, the_loop.invariant.1.put.within)) the_loop.invariant.1
+          (replies_from the_args.t.now the_args.n the_loop.p (omega arith)) the_put_reply.ensures
+          (omega (arith, the_loop.invariant.1.put.within, the_put_reply.ensures.within)),
     )
 
 pub returns : goal.returns
 returns c =
-    let the-args = c.args in
-    let put = over c.loop-p.invariant.1 (replies_over the-args.t.now the-args.n c.loop-p.p (omega arith)) in
-    bounded (the-args.n * reply_widest) put (omega (arith, put.within, c.loop-p.invariant.0))
+    let the_args = c.args in
+    let put = over c.loop-p.invariant.1 (replies_over the_args.t.now the_args.n c.loop-p.p (omega arith)) in
+    bounded (the_args.n * reply_widest) put (omega (arith, put.within, c.loop-p.invariant.0))

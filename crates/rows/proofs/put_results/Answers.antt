@@ -6,8 +6,8 @@ use Rattle.rows.proofs.put_results.Goals as goal
 
 pub returns : goal.returns
 returns c =
-    let the-put-replies = c.put_replies in
-    let the-put-steps = c.put_steps-at in
-    let the-pre = c.requires in
-    let put = then (omega arith) the-put-steps.ensures the-put-replies.ensures in
-    bounded most_printed put (omega (arith, put.within, the-pre.1, the-pre.3))
+    let the_put_replies = c.put_replies in
+    let the_put_steps = c.put_steps-at in
+    let the_pre = c.requires in
+    let put = then (omega arith) the_put_steps.ensures the_put_replies.ensures in
+    bounded most_printed put (omega (arith, put.within, the_pre.1, the_pre.3))

@@ -11,18 +11,18 @@ use Rattle.rows.proofs.put_steps.Goals as goal
 
 pub loop-i-preserved : goal.loop-i-preserved
 loop-i-preserved c =
-    let the-put-step-line = c.put_step_line-at in
-    let the-place-of = c.place_of-step in
-    let the-loop = c.loop-i in
+    let the_put_step_line = c.put_step_line-at in
+    let the_place_of = c.place_of-step in
+    let the_loop = c.loop-i in
     let numbers = c.args.numbers.now in
-    let the-pre = c.requires in
-    let so_far = the-loop.invariant.2.put.within in
-    let rest = lines_of step_line (rows_by (the-loop.i + 1) the-place-of.result.n (drop (the-loop.i + 1) numbers)) in (
+    let the_pre = c.requires in
+    let so_far = the_loop.invariant.2.put.within in
+    let rest = lines_of step_line (rows_by (the_loop.i + 1) the_place_of.result.n (drop (the_loop.i + 1) numbers)) in (
       omega arith,
-      omega (arith, the-place-of.ensures.1, count_grows the-loop.n (get_or numbers the-loop.i 0)),
-      turn rest ((the-loop.i + 1) * step_widest) (omega (arith, the-pre.1)) the-loop.invariant.2
-          (steps_from numbers the-loop.i the-loop.n (omega arith) the-place-of.ensures.0 the-place-of.ensures.1)
-          the-put-step-line.ensures (omega (arith, the-put-step-line.ensures.within)),
+      omega (arith, the_place_of.ensures.1, count_grows the_loop.n (get_or numbers the_loop.i 0)),
+      turn rest ((the_loop.i + 1) * step_widest) (omega (arith, the_pre.1)) the_loop.invariant.2
+          (steps_from numbers the_loop.i the_loop.n (omega arith) the_place_of.ensures.0 the_place_of.ensures.1)
+          the_put_step_line.ensures (omega (arith, the_put_step_line.ensures.within)),
     )
 
 pub returns : goal.returns

@@ -8,20 +8,20 @@ use Rattle.arguments.proofs.given.find.Goals as goal
 
 pub returns-then-row-i : goal.returns-then-row-i
 returns-then-row-i c =
-    let the-if1 = c.if-row-i in
-    let the-loop-test = c.loop-i-test in
-    let the-loop = c.loop-i in
-    let the-pre = c.requires in
-    λ k e. yes _ (eq-eqb _ _ (the-if1.true ∙ sym e)) refl ∙ sym (find_from the-pre k the-loop.i the-loop-test.true) ∙ the-loop.invariant.1 k e
+    let the_if1 = c.if-row-i in
+    let the_loop_test = c.loop-i-test in
+    let the_loop = c.loop-i in
+    let the_pre = c.requires in
+    λ k e. yes _ (eq-eqb _ _ (the_if1.true ∙ sym e)) refl ∙ sym (find_from the_pre k the_loop.i the_loop_test.true) ∙ the_loop.invariant.1 k e
 
 pub loop-i-preserved : goal.loop-i-preserved
 loop-i-preserved c =
-    let the-loop-test = c.loop-i-test in
-    let the-loop = c.loop-i in
-    let the-pre = c.requires in (
+    let the_loop_test = c.loop-i-test in
+    let the_loop = c.loop-i in
+    let the_pre = c.requires in (
       omega arith,
-      λ k e. no _ (ne_eqb _ _ (λ z. c.if-row-i.false (z ∙ e))) refl ∙ sym (find_from the-pre k the-loop.i the-loop-test.true)
-          ∙ the-loop.invariant.1 k e,
+      λ k e. no _ (ne_eqb _ _ (λ z. c.if-row-i.false (z ∙ e))) refl ∙ sym (find_from the_pre k the_loop.i the_loop_test.true)
+          ∙ the_loop.invariant.1 k e,
     )
 
 pub returns : goal.returns

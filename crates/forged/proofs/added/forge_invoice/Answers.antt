@@ -11,12 +11,12 @@ use Rattle.forged.proofs.added.forge_invoice.Goals as goal
 pub returns : goal.returns
 unfolding forged_in gathered_in item_in
 returns c =
-    let the-gather = c.gather-g in
-    let the-args = c.args in
+    let the_gather = c.gather-g in
+    let the_args = c.args in
     λ n ready.
-    let R = messages n the-args.t.now in
-    let s = the-args.s.now in
-    let G = the-gather.ensures n ready in
+    let R = messages n the_args.t.now in
+    let s = the_args.s.now in
+    let G = the_gather.ensures n ready in
     let W : c.invoice_signature-signed.result ≡ item_in Item.v invoice_signed_in (record { signer = no_seller; mark = (gathered_in R s).mark })
     R s = c.invoice_signature-signed.ensures n ready
     ∙ (λ i. item_in Item.v invoice_signed_in (record { signer = no_seller; mark = (G i).mark }) R s) in

@@ -8,10 +8,10 @@ use Rattle.forged.proofs.added.forge_payment.Goals as goal
 pub returns : goal.returns
 unfolding buyer_signature_in forged_in gathered_in slip_given
 returns c =
-    let the-gathered-slip = c.gathered_slip-slip in
-    let the-gather = c.gather-g in
+    let the_gathered_slip = c.gathered_slip-slip in
+    let the_gather = c.gather-g in
     λ n ready.
-    let G = the-gather.ensures n ready in
-    let E = the-gathered-slip.ensures n ready G in
+    let G = the_gather.ensures n ready in
+    let E = the_gathered_slip.ensures n ready G in
     let P = c.signed_by_buyer-signed.ensures n ready (λ i. (G i).mark) E in
     c.payment.ensures ∙ (λ i. a_payment no_buyer (G i).buyer (G i).seller (E i) (P i))

@@ -11,21 +11,21 @@ use Rattle.forged.proofs.added.gather.Goals as goal
 pub returns : goal.returns
 unfolding account_in buyer_in drawn_given gathered_in item_in number_in
 returns c =
-    let the-buyer = c.buyer-buyer in
-    let the-drawn = c.drawn-drawn in
-    let the-account = c.account-account in
+    let the_buyer = c.buyer-buyer in
+    let the_drawn = c.drawn-drawn in
+    let the_account = c.account-account in
     let the_number = c.number in
-    let the-args = c.args in
+    let the_args = c.args in
     λ n ready.
-    let R = messages n the-args.t.now in
-    let ks = taken_by the-args.s.now in
-    let xs = arguments_of the-args.s.now in
+    let R = messages n the_args.t.now in
+    let ks = taken_by the_args.s.now in
+    let xs = arguments_of the_args.s.now in
     let S : the_number.result ≡ (seller R ks xs).0 = the_number.ensures Argument.S refl in
-    let A : the-account.result ≡ account R ks xs = the-account.ensures n ready in
-    let D : the-drawn.result ≡ drawn R ks xs = the-drawn.ensures n ready in
-    let B : the-buyer.result ≡ buyer R ks xs = the-buyer.ensures ∙ (λ i. buyer_in (A i) the-args.s.now) in
+    let A : the_account.result ≡ account R ks xs = the_account.ensures n ready in
+    let D : the_drawn.result ≡ drawn R ks xs = the_drawn.ensures n ready in
+    let B : the_buyer.result ≡ buyer R ks xs = the_buyer.ensures ∙ (λ i. buyer_in (A i) the_args.s.now) in
     let H : c.hashed-hashed.result ≡ hashed R ks xs = c.hashed-hashed.ensures n ready
-    ∙ (λ i. item_in Item.h hashed_in (record { drawn = D i; account = A i }) R the-args.s.now) in
+    ∙ (λ i. item_in Item.h hashed_in (record { drawn = D i; account = A i }) R the_args.s.now) in
     let M : c.mark-mark.result ≡ mark R ks xs = c.mark-mark.ensures n ready
-    ∙ (λ i. item_in Item.m mark_in (record { seller = record { 0 = S i }; buyer = B i; hashed = H i }) R the-args.s.now) in
+    ∙ (λ i. item_in Item.m mark_in (record { seller = record { 0 = S i }; buyer = B i; hashed = H i }) R the_args.s.now) in
     λ i. record { seller = record { 0 = S i }; account = A i; drawn = D i; buyer = B i; hashed = H i; mark = M i }

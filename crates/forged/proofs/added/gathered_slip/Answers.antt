@@ -10,7 +10,7 @@ use Rattle.forged.proofs.added.gathered_slip.Goals as goal
 pub returns : goal.returns
 unfolding gathered_in item_in slip_given
 returns c =
-    let the-args = c.args in
+    let the_args = c.args in
     λ n ready G. c.slip.ensures n ready
-    ∙ (λ i. item_in Item.e slip_in (slip_under house (G i).mark (G i).account (G i).drawn) (messages n the-args.t.now)
-    the-args.s.now)
+    ∙ (λ i. item_in Item.e slip_in (slip_under house (G i).mark (G i).account (G i).drawn) (messages n the_args.t.now)
+    the_args.s.now)

@@ -10,7 +10,7 @@ use Rattle.forged.proofs.added.signed_by_buyer.Goals as goal
 pub returns : goal.returns
 unfolding buyer_signature_in gathered_in item_in slip_given
 returns c =
-    let the-args = c.args in
+    let the_args = c.args in
     λ n ready G E. c.buyer_signature.ensures n ready
-    ∙ (λ i. item_in Item.p buyer_signed_in (record { signer = no_buyer; slip = E i; mark = G i }) (messages n the-args.t.now)
-    the-args.s.now)
+    ∙ (λ i. item_in Item.p buyer_signed_in (record { signer = no_buyer; slip = E i; mark = G i }) (messages n the_args.t.now)
+    the_args.s.now)

@@ -5,7 +5,7 @@ use Rattle.record.specs.Table.{messages}
 use Rattle.messages.specs.declared.parts.Slip.{Slip}
 use Rattle.rules.specs.Codes.{Argument}
 use Rattle.rules.specs.Items.{slip_in}
-use Rattle.forged.proofs.Found.{account-copied, account_own, account-safe}
+use Rattle.forged.proofs.Found.{account_copied, account_own, account_safe}
 use Rattle.forged.proofs.copied.account.Goals as goal
 
 pub returns-then-p-eq0 : goal.returns-then-p-eq0
@@ -14,10 +14,10 @@ returns-then-p-eq0 c =
     (c.number-p.ensures Argument.a refl) c.if-p-eq0.true
 
 pub message-requires : goal.message-requires
-message-requires c = account-safe c.requires c.number-p.result (c.number-p.ensures Argument.a refl) c.if-p-eq0.false
+message-requires c = account_safe c.requires c.number-p.result (c.number-p.ensures Argument.a refl) c.if-p-eq0.false
 
 pub returns : goal.returns
 returns c =
     λ n ready. ap (λ (x : Slip). x.account) c.slip_in-slip.ensures
     ∙ ap (λ (x : Message). (slip_in x).account) c.message.ensures.0
-    ∙ account-copied ready c.number-p.result (c.number-p.ensures Argument.a refl) c.if-p-eq0.false
+    ∙ account_copied ready c.number-p.result (c.number-p.ensures Argument.a refl) c.if-p-eq0.false

@@ -2,7 +2,7 @@
 use mathlib.Core.Path.{◌∙◌, sym}
 use Rattle.record.specs.Table.{messages}
 use Rattle.rules.specs.Codes.{Argument}
-use Rattle.forged.proofs.Found.{found-message, no_message, safe}
+use Rattle.forged.proofs.Found.{found_message, no_message, safe}
 use Rattle.forged.proofs.copied.given_message.Goals as goal
 
 pub returns-in_default : goal.returns-in_default
@@ -12,9 +12,9 @@ returns-in_default c =
 pub message-requires : goal.message-requires
 message-requires c =
     let named = c.requires.1 in
-    safe c.requires.0 named.item c.in-At.p (sym c.in-At.is ∙ c.find.ensures (Argument.at named.item) named.its-letter)
+    safe c.requires.0 named.item c.in-At.p (sym c.in-At.is ∙ c.find.ensures (Argument.at named.item) named.its_letter)
 
 pub returns : goal.returns
 returns c =
     λ n i e ready.
-    found-message ready i c.in-At.p (sym c.in-At.is ∙ c.find.ensures (Argument.at i) e) c.message.ensures.0 c.message.ensures.1
+    found_message ready i c.in-At.p (sym c.in-At.is ∙ c.find.ensures (Argument.at i) e) c.message.ensures.0 c.message.ensures.1

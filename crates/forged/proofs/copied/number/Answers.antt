@@ -1,6 +1,6 @@
 -- `forged::copied::number` meets its promise.
 use mathlib.Core.Path.{◌∙◌, sym}
-use Rattle.rules.proofs.Arguments.{not-given}
+use Rattle.rules.proofs.Arguments.{not_given}
 use Rattle.rules.specs.Step.{arguments_of}
 use Rattle.forged.proofs.Found.{found_number, lost}
 use Rattle.forged.specs.Outside.{number_in, taken_by}
@@ -11,7 +11,7 @@ unfolding number_in
 returns-in_default c =
     λ k e.
     let none = lost k (taken_by c.args.s.now) (arguments_of c.args.s.now) (sym c.in_default.is ∙ c.find.ensures k e) in
-    sym (not-given k (taken_by c.args.s.now) (arguments_of c.args.s.now) none)
+    sym (not_given k (taken_by c.args.s.now) (arguments_of c.args.s.now) none)
 
 pub returns : goal.returns
 unfolding number_in

@@ -10,34 +10,34 @@ use Rattle.record.specs.Table.{Record}
 use Rattle.record.proofs.table.are_lawful.Goals as goal
 
 -- before the first message all are left to test
-from-the-first : (R : Record) → all lawful (drop 0 R) ≡ all lawful R
-from-the-first R = refl
+from_the_first : (R : Record) → all lawful (drop 0 R) ≡ all lawful R
+from_the_first R = refl
 
 pub returns-then-not-is_lawful_by : goal.returns-then-not-is_lawful_by
 returns-then-not-is_lawful_by c =
-    let the-message = c.message in
-    let the-loop-test = c.loop-p-test in
-    let the-loop = c.loop-p in
-    let the-args = c.args in
+    let the_message = c.message in
+    let the_loop_test = c.loop-p-test in
+    let the_loop = c.loop-p in
+    let the_args = c.args in
     leaves c.is_lawful_by.result _
-    (test_next lawful the-args.n the-args.t.now the-loop.p _ the-loop-test.true the-message.ensures.0
+    (test_next lawful the_args.n the_args.t.now the_loop.p _ the_loop_test.true the_message.ensures.0
     c.is_lawful_by.ensures) c.if-not-is_lawful_by.true
-    ∙ the-loop.invariant.0
+    ∙ the_loop.invariant.0
 
 pub loop-p-preserved : goal.loop-p-preserved
 loop-p-preserved c =
-    let the-message = c.message in
-    let the-loop-test = c.loop-p-test in
-    let the-loop = c.loop-p in
-    let the-args = c.args in (
+    let the_message = c.message in
+    let the_loop_test = c.loop-p-test in
+    let the_loop = c.loop-p in
+    let the_args = c.args in (
       goes_on c.is_lawful_by.result _
-          (test_next lawful the-args.n the-args.t.now the-loop.p _ the-loop-test.true the-message.ensures.0
+          (test_next lawful the_args.n the_args.t.now the_loop.p _ the_loop_test.true the_message.ensures.0
           c.is_lawful_by.ensures) c.if-not-is_lawful_by.false
-          ∙ the-loop.invariant.0,
+          ∙ the_loop.invariant.0,
       omega arith,
     )
 
 pub returns : goal.returns
 returns c =
-    let the-args = c.args in
-    sym (test_over lawful the-args.n the-args.t.now c.loop-p.p (omega arith)) ∙ c.loop-p.invariant.0
+    let the_args = c.args in
+    sym (test_over lawful the_args.n the_args.t.now c.loop-p.p (omega arith)) ∙ c.loop-p.invariant.0

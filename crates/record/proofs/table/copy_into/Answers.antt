@@ -23,10 +23,10 @@ over t from xs i e =
 
 pub loop-i-preserved : goal.loop-i-preserved
 loop-i-preserved c =
-    let the-loop = c.loop-i in
-    let the-args = c.args in (
+    let the_loop = c.loop-i in
+    let the_args = c.args in (
       omega arith,
-      simp length-set the-loop.invariant.1,
-      turn the-args.t.now the-args.from the-args.xs.now the-loop.i
-          the-loop.invariant.2 (omega arith) (omega arith),
+      simp length-set the_loop.invariant.1,
+      turn the_args.t.now the_args.from the_args.xs.now the_loop.i
+          the_loop.invariant.2 (omega arith) (omega arith),
     )

@@ -4,13 +4,13 @@ use Rattle.messages.proofs.Chain.{failed, held, inside}
 use Rattle.messages.proofs.Picks.{no, yes}
 use Rattle.messages.specs.declared.signed.ReplySigned.{ReplySigned}
 use Rattle.record.proofs.Cut.{message_at_lem}
-use Rattle.reports.proofs.Refusals.{no-reply-at}
+use Rattle.reports.proofs.Refusals.{no_reply_at}
 use Rattle.rules.specs.Report.{house_reply, reply_mark}
 use Rattle.reports.proofs.report.reply_at.Goals as goal
 
 pub returns-then-not-is_house_reply : goal.returns-then-not-is_house_reply
 returns-then-not-is_house_reply c =
-    no-reply-at c.args.n c.args.t.now c.args.place 5 (λ z. omega arith) c.no_reply-then-not-is_house_reply.ensures
+    no_reply_at c.args.n c.args.t.now c.args.place 5 (λ z. omega arith) c.no_reply-then-not-is_house_reply.ensures
     (yes _ (inside c.if-p-lt1.false c.if-n-p.false)
     (no _ (ap house_reply (message_at_lem c.args.n c.args.t.now c.args.place c.if-p-lt1.false c.if-n-p.false ∙ sym c.message-m.ensures.0)
     ∙ failed c.is_house_reply.ensures c.if-not-is_house_reply.true) refl))

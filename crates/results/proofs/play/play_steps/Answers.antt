@@ -11,5 +11,5 @@ returns c = (
   subst (λ (bs : Text). Put c.args.out.now 0 bs most_printed c.put_results.new.out c.put_results.result)
       (printed c.args.answers c.args.table.now c.args.steps.now _ c.play-n.result c.play-n.new.t
       c.play-n.new.verdicts c.play-n.ensures) c.put_results.ensures,
-  c.play-n.ensures.record-left,
+  c.play-n.ensures.table_left,
 )

@@ -5,12 +5,12 @@ use mathlib.Core.Bool.{true}
 use mathlib.Core.Path.{◌≡◌}
 use Rattle.messages.proofs.Chain.{failed, held}
 use Rattle.rules.specs.Run.{step_count}
-use Rattle.runs.proofs.Refusals.{few_bytes, no_steps, not-whole, plays}
+use Rattle.runs.proofs.Refusals.{few_bytes, no_steps, not_whole, plays}
 use Rattle.runs.proofs.run.run.Goals as goal
 
 pub returns-then-broken : goal.returns-then-broken
 returns-then-broken c =
-    not-whole c.args.answers c.args.t.now c.args.steps.now c.args.verdicts.now (failed c.is_whole-broken.ensures c.if-broken.true)
+    not_whole c.args.answers c.args.t.now c.args.steps.now c.args.verdicts.now (failed c.is_whole-broken.ensures c.if-broken.true)
 
 pub returns-then-uneven : goal.returns-then-uneven
 returns-then-uneven c =

@@ -8,7 +8,7 @@ use Rattle.arguments.proofs.Places.{for_table, without_row}
 use Rattle.record.proofs.Whole.{under_most}
 use Rattle.record.specs.Table.{room_of}
 use Rattle.rules.specs.Step.{number_of, place_of, table_after}
-use Rattle.step.proofs.Outcomes.{full, not-allowed, refuses, taken}
+use Rattle.step.proofs.Outcomes.{full, not_allowed, refuses, taken}
 use Rattle.step.proofs.judge.decide.Goals as goal
 
 pub is_allowed-barred-requires : goal.is_allowed-barred-requires
@@ -18,7 +18,7 @@ pub returns-then-barred : goal.returns-then-barred
 returns-then-barred c =
     let told = c.is_allowed-barred.ensures c.args.n (without_row c.requires.1) in
     refuses c.args.n c.args.t.now
-    (not-allowed c.args.answers c.args.n c.args.t.now c.args.s.now (failed told c.if-barred.true))
+    (not_allowed c.args.answers c.args.n c.args.t.now c.args.s.now (failed told c.if-barred.true))
 
 pub returns-then-full : goal.returns-then-full
 returns-then-full c =

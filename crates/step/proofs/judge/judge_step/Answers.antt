@@ -3,7 +3,7 @@ use mathlib.Core.Path.{◌∙◌, subst, sym}
 use Rattle.messages.proofs.Chain.{failed, held}
 use Rattle.rules.specs.Step.{Outcome}
 use Rattle.step.specs.Answer.{Answered}
-use Rattle.step.proofs.Outcomes.{faulty, past-arguments, refuses, unknown}
+use Rattle.step.proofs.Outcomes.{faulty, past_arguments, refuses, unknown}
 use Rattle.step.proofs.judge.judge_step.Goals as goal
 
 pub returns-then-not-is_known : goal.returns-then-not-is_known
@@ -22,5 +22,5 @@ returns c =
     let known = held c.is_known.ensures c.if-not-is_known.false in
     let fine = sym c.if-found-ne-FINE.false ∙ c.first_fault-found.ensures in
     subst (λ (o : Outcome). Answered c.args.n c.args.t.now o c.decide.result c.decide.new.t)
-    (sym (past-arguments c.args.answers c.args.n c.args.t.now c.args.s.now known fine))
+    (sym (past_arguments c.args.answers c.args.n c.args.t.now c.args.s.now known fine))
     c.decide.ensures

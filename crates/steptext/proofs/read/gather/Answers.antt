@@ -3,19 +3,19 @@ use Rattle.std.proofs.Common.{◌*◌, ◌≡◌, ◌∙◌, ap, arith, false, n
 use Rattle.std.proofs.lemmas.Bool.{not-false, not-true}
 use Rattle.record.specs.Table.{with_numbers}
 use Rattle.rules.specs.Run.{step_width}
-use Rattle.steptext.proofs.Gathered.{ahead, numbers_are, over_and_done, readable_is, refused-line, refused-text, turn}
+use Rattle.steptext.proofs.Gathered.{ahead, numbers_are, over_and_done, readable_is, refused_line_lem, refused_text, turn}
 use Rattle.steptext.proofs.read.gather.Goals as goal
 
 pub returns-then-not-said : goal.returns-then-not-said
 returns-then-not-said c =
-    refused-line c.args.text.now c.args.from c.args.answers c.args.t.now c.loop-at.t c.loop-at.at c.loop-at.count
+    refused_line_lem c.args.text.now c.args.from c.args.answers c.args.t.now c.loop-at.t c.loop-at.at c.loop-at.count
     c.loop-at.invariant c.loop-at-test.true _ c.next_line-line.ensures
     (sym (readable_is _ _ c.step_said-said.ensures) ∙ not-true _ c.if-not-said.true)
 
 pub returns-then-count-eq-MOST_STEPS : goal.returns-then-count-eq-MOST_STEPS
 returns-then-count-eq-MOST_STEPS c =
     let read : not c.step_said-said.result.readable ≡ false = cc in
-    refused-text c.args.text.now c.args.from c.args.answers c.args.t.now c.loop-at.t c.loop-at.at c.loop-at.count
+    refused_text c.args.text.now c.args.from c.args.answers c.args.t.now c.loop-at.t c.loop-at.at c.loop-at.count
     c.loop-at.invariant c.loop-at-test.true _ c.next_line-line.ensures
     (sym (readable_is _ _ c.step_said-said.ensures) ∙ not-false _ read) c.if-count-eq-MOST_STEPS.true
 
