@@ -1,3 +1,2 @@
-pub mod Offered
 pub mod Places
 pub mod Takes

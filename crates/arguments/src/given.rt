@@ -1,28 +1,20 @@
-// What a step gives under the name of an argument.
+// What a step gives for an argument.
 ghost use Rattle.std.specs.Prelude.{◌≡◌};
 ghost use Rattle.arguments.specs.Given.{found_in};
 ghost use Rattle.arguments.specs.Ready.{Known};
-ghost use Rattle.rules.specs.Codes.{Argument, letter, row_of};
+ghost use Rattle.rules.specs.Codes.{row_of};
 ghost use Rattle.rules.specs.Step.{arguments_of, code_of};
 
-use crate::codes::MOST_ARGUMENTS;
+use rules::codes::Argument;
 
-#[derive(Clone, Copy)]
-pub enum Given {
-    At(u16),
-    Nothing,
-}
-
-pub fn find(name: u8, row: &[u8], s: &[u16]) -> Given
+pub fn find(argument: Argument, row: &[Argument], s: &[u16]) -> Option<u16>
     requires { Known row.now s.now }
-    ensures { (k : Argument) → letter k ≡ name → result ≡ found_in k (row_of (code_of s.now)).takes (arguments_of s.now) }
+    ensures { result ≡ found_in argument (row_of (code_of s.now)).takes (arguments_of s.now) }
 {
-    let mut i = 0;
-    while i < MOST_ARGUMENTS {
-        if row[i] == name {
-            return Given::At(s[i + 1]);
+    for (i, &own) in row.iter().enumerate() {
+        if own == argument {
+            return Some(s[i + 1]);
         }
-        i += 1;
     }
-    Given::Nothing
+    None
 }

@@ -1,24 +1,24 @@
 // The five kinds of message, each from its maker, source, destination and parts. Unused positions are 0.
 ghost use Rattle.std.specs.Prelude.{[], ◌∷◌, ◌≡◌};
-ghost use Rattle.messages.specs.Layout.{a_payment, an_auth_request, an_auth_response, an_initiate, an_invoice, filled, message_width};
+ghost use Rattle.messages.specs.Layout.{a_payment, an_auth_request, an_auth_response, an_initiate, an_invoice, filled, kind_number, message_width};
 
 use crate::put::{
     put_buyer_signed, put_hashed, put_invoice_signed, put_mark, put_reply_signed,
     put_request_signed, put_slip,
 };
+use messages::kind::Kind;
 use messages::layout::{
-    AUTH_REQUEST, AUTH_RESPONSE, BODY, DESTINATION, INITIATE, INVOICE, INVOICE_SIGNED, KIND, MAKER,
-    MESSAGE_WIDTH, PAYMENT, PAYMENT_SIGNED, REPLY_SIGNED, REQUEST_BUYER_SIGNED, REQUEST_SIGNED,
-    REQUEST_SLIP, SOURCE,
+    BODY, DESTINATION, INVOICE_SIGNED, KIND, MAKER, MESSAGE_WIDTH, PAYMENT_SIGNED, REPLY_SIGNED,
+    REQUEST_BUYER_SIGNED, REQUEST_SIGNED, REQUEST_SLIP, SOURCE,
 };
 use messages::parts::{Buyer, Gateway, Hashed, Mark, Seller, Slip};
 use messages::signed::{BuyerSigned, InvoiceSigned, ReplySigned, RequestSigned};
 
-fn opened(kind: u16, maker: u16, source: u16, destination: u16) -> [u16; MESSAGE_WIDTH]
-    ensures { result ≡ filled message_width 0 (kind ∷ maker ∷ source ∷ destination ∷ []) }
+fn opened(kind: Kind, maker: u16, source: u16, destination: u16) -> [u16; MESSAGE_WIDTH]
+    ensures { result ≡ filled message_width 0 (kind_number kind ∷ maker ∷ source ∷ destination ∷ []) }
 {
     let mut m = [0u16; MESSAGE_WIDTH];
-    m[KIND] = kind;
+    m[KIND] = kind as u16;
     m[MAKER] = maker;
     m[SOURCE] = source;
     m[DESTINATION] = destination;
@@ -33,7 +33,7 @@ pub fn initiate(
 ) -> [u16; MESSAGE_WIDTH]
     ensures { result ≡ an_initiate maker source destination hashed }
 {
-    let mut m = opened(INITIATE, maker.0, source.0, destination.0);
+    let mut m = opened(Kind::Initiate, maker.0, source.0, destination.0);
     put_hashed(&mut m, BODY, hashed);
     m
 }
@@ -47,7 +47,7 @@ pub fn invoice(
 ) -> [u16; MESSAGE_WIDTH]
     ensures { result ≡ an_invoice maker source destination mark signed }
 {
-    let mut m = opened(INVOICE, maker.0, source.0, destination.0);
+    let mut m = opened(Kind::Invoice, maker.0, source.0, destination.0);
     put_mark(&mut m, BODY, mark);
     put_invoice_signed(&mut m, INVOICE_SIGNED, signed);
     m
@@ -62,7 +62,7 @@ pub fn payment(
 ) -> [u16; MESSAGE_WIDTH]
     ensures { result ≡ a_payment maker source destination slip signed }
 {
-    let mut m = opened(PAYMENT, maker.0, source.0, destination.0);
+    let mut m = opened(Kind::Payment, maker.0, source.0, destination.0);
     put_slip(&mut m, BODY, slip);
     put_buyer_signed(&mut m, PAYMENT_SIGNED, signed);
     m
@@ -79,7 +79,7 @@ pub fn auth_request(
 ) -> [u16; MESSAGE_WIDTH]
     ensures { result ≡ an_auth_request maker source destination mark slip signed buyer_signed }
 {
-    let mut m = opened(AUTH_REQUEST, maker.0, source.0, destination.0);
+    let mut m = opened(Kind::AuthRequest, maker.0, source.0, destination.0);
     put_mark(&mut m, BODY, mark);
     put_slip(&mut m, REQUEST_SLIP, slip);
     put_request_signed(&mut m, REQUEST_SIGNED, signed);
@@ -96,7 +96,7 @@ pub fn auth_response(
 ) -> [u16; MESSAGE_WIDTH]
     ensures { result ≡ an_auth_response maker source destination code signed }
 {
-    let mut m = opened(AUTH_RESPONSE, maker.0, source.0, destination.0);
+    let mut m = opened(Kind::AuthResponse, maker.0, source.0, destination.0);
     m[BODY] = code;
     put_reply_signed(&mut m, REPLY_SIGNED, signed);
     m

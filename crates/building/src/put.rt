@@ -16,6 +16,7 @@ ghost use Rattle.messages.specs.Signed.{buyer_signed_width, invoice_signed_width
 use messages::parts::{DRAWN_WIDTH, Drawn, Hashed, MARK_WIDTH, Mark, SLIP_WIDTH, Slip};
 use messages::signed::{BuyerSigned, InvoiceSigned, ReplySigned, RequestSigned};
 
+// Each of these eight writes other fields, so that they are no copies of one another.
 pub fn put_drawn(m: &mut [u16], k: usize, x: Drawn)
     requires { k + drawn_width ≤ length m.old }
     ensures { m.new ≡ put_drawn m.old k x }

@@ -10,11 +10,12 @@ use borrow.Author.Tests.{leb-false, leb-true}
 use lib.Dec.{leb}
 use lib.ListN.{get_or-map, drop, get_or, get_or-replicate, replicate, take}
 use lib.Seq.{get_or-drop, get_or-take}
-use Rattle.messages.specs.Layout.{Kind}
+use Rattle.messages.specs.declared.kind.Kind.{Kind}
 use Rattle.messages.specs.Parts.{Message}
 use Rattle.messages.specs.Tests.{all}
 use Rattle.record.specs.Table.{Record, messages}
-use Rattle.rules.specs.Codes.{Argument, Deed, Row, asks, forges, invoices, most_code, pays, replies, row, row_of, rows, starts}
+use Rattle.rules.specs.Codes.{Deed, Row, asks, forges, invoices, most_code, pays, replies, row, row_of, rows, starts}
+use Rattle.rules.specs.declared.codes.Argument.{Argument}
 use Rattle.rules.specs.Honest.{holds}
 use Rattle.rules.specs.Step.{added, arguments_of, claims, code_of}
 use Rattle.forged.specs.Outside.{forged_in}

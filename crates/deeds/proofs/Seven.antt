@@ -4,19 +4,19 @@ use mathlib.Core.Bool.{Bool, true}
 use mathlib.Core.List.{List, [], ◌∷◌}
 use mathlib.Core.Logic.{◌⊎◌, ⊎_elim}
 use mathlib.Core.Path.{◌≡◌, ◌∙◌, refl, sym, ap, subst}
-use Prim.Native.Nat.{ℕ, zero, suc, ◌+◌, ◌*◌, ◌≤◌, ◌<◌}
+use Prim.Native.Nat.{ℕ, zero, suc, ◌+◌, ◌≤◌, ◌<◌}
 use native.Mathlib.Nat.{le_of_suc-le-suc, not-suc-le-zero}
 use native.Mathlib.Omega.{arith}
 use lib.ListN.{get_or, length}
 use Rattle.messages.proofs.Chain.{bounds, left_of, right_of}
 use Rattle.record.proofs.Cut.{message_at_lem}
-use Rattle.messages.specs.Layout.{message_width}
 use Rattle.messages.specs.Parts.{Message}
+use Rattle.messages.specs.Tests.{between}
 use Rattle.record.specs.Table.{message_at, message_in, messages}
-use Rattle.rules.specs.Codes.{Argument, row_of}
+use Rattle.rules.specs.Codes.{row_of}
+use Rattle.rules.specs.declared.codes.Argument.{Argument}
 use Rattle.rules.specs.Items.{each_argument, placed}
 use Rattle.rules.specs.Step.{arguments_of, code_of}
-use Rattle.arguments.proofs.Places.{in_table}
 use Rattle.arguments.proofs.Takes.{argument_at, six, six_arguments}
 use Rattle.arguments.specs.Ready.{Ready}
 
@@ -54,37 +54,33 @@ taken e = ap (λ (c : ℕ). (row_of c).takes) e
 
 -- entry i of a row is passed
 passed_at : (f : Argument → ℕ → Bool) (ks : List Argument) (xs : List ℕ) (i : ℕ) → i < length ks → i < length xs
-    → each_argument f ks xs ≡ true → f (get_or ks i Argument.unused) (get_or xs i 0) ≡ true
+    → each_argument f ks xs ≡ true → f (get_or ks i Argument.Unused) (get_or xs i 0) ≡ true
 passed_at f [] xs i h w e = absurd (not-suc-le-zero h)
 passed_at f (k ∷ ks) [] i h w e = absurd (not-suc-le-zero w)
 passed_at f (k ∷ ks) (x ∷ xs) zero h w e = left_of (f k x) _ e
 passed_at f (k ∷ ks) (x ∷ xs) (suc i) h w e =
     passed_at f ks xs i (le_of_suc-le-suc h) (le_of_suc-le-suc w) (right_of (f k x) _ e)
 
-module _ {n : ℕ} {t row s : List ℕ} (ready : Ready n t row s) where
-  named_place : (i : ℕ) → i < 6 → placed n (get_or (row_of (code_of s)).takes i Argument.unused) (get_or s (i + 1) 0) ≡ true
+module _ {n : ℕ} {t : List ℕ} {row : List Argument} {s : List ℕ} (ready : Ready n t row s) where
+  named_place : (i : ℕ) → i < 6 → placed n (get_or (row_of (code_of s)).takes i Argument.Unused) (get_or s (i + 1) 0) ≡ true
   named_place i h =
-      subst (λ (x : ℕ). placed n (get_or (row_of (code_of s)).takes i Argument.unused) x ≡ true) (argument_at s i)
+      subst (λ (x : ℕ). placed n (get_or (row_of (code_of s)).takes i Argument.Unused) x ≡ true) (argument_at s i)
       (passed_at (placed n) (row_of (code_of s)).takes (arguments_of s) i
       (subst (λ (z : ℕ). i < z) (sym (six (code_of s) ready.known.low ready.known.high)) h)
       (subst (λ (z : ℕ). i < z) (sym (six_arguments s ready.known.seven)) h) ready.places)
 
   -- argument i is the place of a message, by what the step's row has there
   module _ (i : ℕ) {ks : List Argument} (e : (row_of (code_of s)).takes ≡ ks) (h : i < 6)
-      (w : placed n (get_or ks i Argument.unused) (get_or s (i + 1) 0) ≡ placed n (Argument.at
-      Rattle.rules.specs.Codes.h) (get_or s (i + 1) 0)) where
-    in_range_lem : placed n (Argument.at Rattle.rules.specs.Codes.h) (get_or s (i + 1) 0) ≡ true
+      (w : placed n (get_or ks i Argument.Unused) (get_or s (i + 1) 0) ≡ between 1 (get_or s (i + 1) 0) n) where
+    in_range_lem : between 1 (get_or s (i + 1) 0) n ≡ true
     in_range_lem =
-        sym w ∙ subst (λ (js : List Argument). placed n (get_or js i Argument.unused) (get_or s (i + 1) 0) ≡ true) e (named_place i h)
+        sym w ∙ subst (λ (js : List Argument). placed n (get_or js i Argument.Unused) (get_or s (i + 1) 0) ≡ true) e (named_place i h)
 
     pub first_place : 1 ≤ get_or s (i + 1) 0
     first_place = (bounds 1 (get_or s (i + 1) 0) n in_range_lem).0
 
     pub last_place : get_or s (i + 1) 0 ≤ n
     last_place = (bounds 1 (get_or s (i + 1) 0) n in_range_lem).1
-
-    pub safe_place : (1 ≤ get_or s (i + 1) 0) × (get_or s (i + 1) 0 * message_width ≤ length t)
-    safe_place = (first_place, in_table ready last_place)
 
     pub message_there : {x : Message} → x ≡ message_in t (record { 0 = get_or s (i + 1) 0 })
         → x ≡ message_at (messages n t) (record { 0 = get_or s (i + 1) 0 })

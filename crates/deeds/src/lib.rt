@@ -13,6 +13,7 @@ use honest::allowed::{may_ask, may_invoice, may_pay, may_reply};
 use messages::layout::MESSAGE_WIDTH;
 use messages::parts::{Buyer, FALSE_GATEWAY, Gateway, HOUSE, Place, Seller};
 use record::table::message;
+use rules::codes::Argument;
 
 // The message that an argument names.
 fn named(t: &[u16], x: u16) -> &[u16]
@@ -22,13 +23,12 @@ fn named(t: &[u16], x: u16) -> &[u16]
     message(t, Place(x as usize))
 }
 
-// Only an honest step has a condition, and the first honest step has none.
+// Only an honest step has a condition, and the first honest step has none. By the code, as document 01 names the form for `added`.
 pub fn is_allowed(t: &[u16], s: &[u16]) -> bool
     requires { ReadyStep (room_of t.now) t.now s.now }
     ensures { (n : ℕ) → ReadyStep n t.now s.now → result ≡ allowed_in n t.now s.now }
 {
-    let code = s[0];
-    match code {
+    match s[0] {
         2 => may_invoice(Seller(s[1]), named(t, s[2])),
         3 | 38 => may_pay(Buyer(s[1]), named(t, s[2]), named(t, s[3])),
         4 => may_ask(Seller(s[1]), named(t, s[2]), named(t, s[3])),
@@ -37,13 +37,13 @@ pub fn is_allowed(t: &[u16], s: &[u16]) -> bool
     }
 }
 
-// One match on the 38 codes, with ranges for the forged kinds. The message is made only for a step that is accepted.
-pub fn added(t: &[u16], n: usize, answers: u16, row: &[u8], s: &[u16]) -> [u16; MESSAGE_WIDTH]
+// One match on the 38 codes, with ranges for the forged kinds: the form that document 01 names. The message is made only for a step that is
+// accepted.
+pub fn added(t: &[u16], n: usize, answers: u16, row: &[Argument], s: &[u16]) -> [u16; MESSAGE_WIDTH]
     requires { Ready n t.now row.now s.now × (n < 65535) }
     ensures { result ≡ added_in answers n t.now s.now }
 {
-    let code = s[0];
-    match code {
+    match s[0] {
         1 => started(Buyer(s[1]), Seller(s[2]), Place(n + 1)),
         2 => invoiced(Seller(s[1]), named(t, s[2])),
         3 => paid(Gateway(HOUSE), Buyer(s[1]), named(t, s[2])),

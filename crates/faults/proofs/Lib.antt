@@ -1,2 +1,2 @@
-pub mod Ends
+mod Ends
 pub mod Lowest

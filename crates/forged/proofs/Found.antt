@@ -1,7 +1,7 @@
 -- What the search of a step's row found: the item is given, its place is in 1..n, and what is read from the message there is what the
 -- definitions name; or it is not given, and what was built stands.
 use mathlib.Core.Bool.{Bool, true, false, cond}
-use mathlib.Core.List.{List, []}
+use mathlib.Core.List.{List}
 use mathlib.Core.Path.{◌≡◌, ◌∙◌, refl, sym, ap, subst}
 use Prim.Native.Nat.{ℕ, ◌*◌, ◌≤◌}
 use native.Mathlib.Omega.{arith}
@@ -15,8 +15,9 @@ use Rattle.messages.specs.Parts.{Message}
 use Rattle.record.specs.Table.{Record, message_at, message_in, messages}
 use Rattle.messages.specs.declared.parts.Account.{Account}
 use Rattle.rules.proofs.Arguments.{not_given, passed_given}
-use Rattle.rules.specs.Codes.{Argument, Item}
-use Rattle.rules.specs.Forged.{copied, given, gives}
+use Rattle.rules.specs.declared.codes.Argument.{Argument}
+use Rattle.rules.specs.declared.codes.Item.{Item}
+use Rattle.rules.specs.Forged.{given, gives}
 use Rattle.rules.specs.Items.{placed, slip_in}
 use Rattle.rules.specs.Step.{arguments_of}
 use Rattle.arguments.proofs.Places.{in_table}
@@ -24,74 +25,47 @@ use Rattle.messages.proofs.Picks.{no, yes}
 use Rattle.arguments.specs.Given.{found_in}
 use Rattle.forged.specs.Outside.{Offers, account_in, item_in, number_in, taken_by}
 use Rattle.arguments.specs.Ready.{Ready}
-use Rattle.arguments.specs.declared.given.Given.{Given}
-use Rattle.arguments.specs.declared.given.Given.TheVariants.{At, Nothing}
+use Rattle.std.proofs.Common.{is_some, MatchOption, None, Option, Some}
+use Rattle.std.specs.Borrow.{Bor}
+use Rattle.std.specs.Option.{unwrap_or}
 
-is_at : Given → Bool
-is_at (At x) = true
-is_at Nothing = false
-
-number_at : Given → ℕ
-number_at (At x) = x
-number_at Nothing = 0
-
-by_test : (b : Bool) (x : ℕ) → is_at (cond b (At x) Nothing) ≡ b
-unfolding is_at
+-- what the search of a step's row gives tells whether the row has the argument, and its number
+by_test : (b : Bool) (x : ℕ) → is_some (cond b (Some x) None) ≡ b
 by_test true x = refl
 by_test false x = refl
 
-pub found : (k : Argument) (ks : List Argument) (xs : List ℕ) (p : ℕ) → At p ≡ found_in k ks xs → gives k ks ≡ true
-unfolding is_at
-found k ks xs p e = sym (ap is_at e ∙ by_test (gives k ks) (given k ks xs))
+pub found : (k : Argument) (ks : List Argument) (xs : List ℕ) (p : ℕ) → Some p ≡ found_in k ks xs → gives k ks ≡ true
+found k ks xs p e = sym (ap is_some e ∙ by_test (gives k ks) (given k ks xs))
 
-pub found_number : (k : Argument) (ks : List Argument) (xs : List ℕ) (p : ℕ) → At p ≡ found_in k ks xs → p ≡ given k ks xs
-unfolding number_at
-found_number k ks xs p e = ap number_at (e ∙ sym (yes Nothing (found k ks xs p e) refl))
+pub found_number : (k : Argument) (ks : List Argument) (xs : List ℕ) (p : ℕ) → Some p ≡ found_in k ks xs → p ≡ given k ks xs
+found_number k ks xs p e = ap (λ o. unwrap_or o 0) (e ∙ sym (yes None (found k ks xs p e) refl))
 
-pub lost : (k : Argument) (ks : List Argument) (xs : List ℕ) → Nothing ≡ found_in k ks xs → gives k ks ≡ false
-unfolding is_at
-lost k ks xs e = sym (ap is_at e ∙ by_test (gives k ks) (given k ks xs))
+pub lost : (k : Argument) (ks : List Argument) (xs : List ℕ) → None ≡ found_in k ks xs → gives k ks ≡ false
+lost k ks xs e = sym (ap is_some e ∙ by_test (gives k ks) (given k ks xs))
 
-pub no_message : (i : Item) (R : Record) (s : List ℕ) → Nothing ≡ found_in (Argument.at i) (taken_by s) (arguments_of s) → Offers i R s []
+pub found_or_0 : (k : Argument) (ks : List Argument) (xs : List ℕ) → unwrap_or (found_in k ks xs) 0 ≡ given k ks xs
+found_or_0 k ks xs = by (gives k ks) refl
+  where
+    by : (b : Bool) → gives k ks ≡ b → unwrap_or (cond b (Some (given k ks xs)) None) 0 ≡ given k ks xs
+    by true e = refl
+    by false e = sym (not_given k ks xs e)
+
+-- the item of the message that the step gives, or else what is built in its place
+pub item_given : {A : Type 0} (i : Item) (R : Record) (s : List ℕ) (read : Message → A) (built : A) (o : Option (Bor (List ℕ))) {r : A}
+    → Offers i R s o → MatchOption o (r ≡ built) (λ m. r ≡ read m.now) → r ≡ item_in i read built R s
 unfolding item_in
-no_message i R s e =
-    let g = lost (Argument.at i) (taken_by s) (arguments_of s) e in
-    record { message = no _ g refl; long = no _ g refl }
+item_given i R s read built None e p = no _ e p
+item_given i R s read built (Some m) e p = yes _ e.0 (p ∙ ap read e.1)
 
--- by its length an offered message is told from none
-module _ {i : Item} {R : Record} {s : List ℕ} {m : Message} (offer : Offers i R s m) where
-  pub stands : {A : Type 0} (read : Message → A) (built : A) → length m ≡ 0 → built ≡ item_in i read built R s
-  unfolding item_in
-  stands read built z = by (gives (Argument.at i) (taken_by s)) offer.long
-    where
-      by : (b : Bool) → length m ≡ cond b message_width 0 → built ≡ cond b (read (copied R (taken_by s) (arguments_of s) i)) built
-      by true l = absurd (omega arith)
-      by false l = refl
-
-  pub whole_message : (length m ≡ 0 → ⊥) → length m ≡ message_width
-  whole_message h = by (gives (Argument.at i) (taken_by s)) offer.long
-    where
-      by : (b : Bool) → length m ≡ cond b message_width 0 → length m ≡ message_width
-      by true l = l
-      by false l = absurd (h l)
-
-  pub read_there : {A : Type 0} (read : Message → A) (built : A) → (length m ≡ 0 → ⊥) → read m ≡ item_in i read built R s
-  unfolding item_in
-  read_there read built h = by (gives (Argument.at i) (taken_by s)) offer.message
-    where
-      by : (b : Bool) → m ≡ cond b (copied R (taken_by s) (arguments_of s) i) [] → read m ≡ cond b (read (copied R (taken_by s) (arguments_of s) i)) built
-      by true e = ap read e
-      by false e = absurd (h (ap length e))
-
-module _ {n : ℕ} {t row s : List ℕ} (ready : Ready n t row s) where
+module _ {n : ℕ} {t : List ℕ} {row : List Argument} {s : List ℕ} (ready : Ready n t row s) where
   pub place_passed : (k : Argument) → gives k (taken_by s) ≡ true → placed n k (given k (taken_by s) (arguments_of s)) ≡ true
   place_passed k e = passed_given k (placed n) (taken_by s) (arguments_of s) ready.places e
 
-  module _ (i : Item) (p : ℕ) (e : At p ≡ found_in (Argument.at i) (taken_by s) (arguments_of s)) where
-    given_place : placed n (Argument.at i) p ≡ true
+  module _ (i : Item) (p : ℕ) (e : Some p ≡ found_in (Argument.At i) (taken_by s) (arguments_of s)) where
+    given_place : placed n (Argument.At i) p ≡ true
     given_place =
-        subst (λ (x : ℕ). placed n (Argument.at i) x ≡ true) (sym (found_number (Argument.at i) (taken_by s) (arguments_of s) p e))
-        (place_passed (Argument.at i) (found (Argument.at i) (taken_by s) (arguments_of s) p e))
+        subst (λ (x : ℕ). placed n (Argument.At i) x ≡ true) (sym (found_number (Argument.At i) (taken_by s) (arguments_of s) p e))
+        (place_passed (Argument.At i) (found (Argument.At i) (taken_by s) (arguments_of s) p e))
 
     first_place : 1 ≤ p
     first_place = (bounds 1 p n given_place).0
@@ -102,28 +76,18 @@ module _ {n : ℕ} {t row s : List ℕ} (ready : Ready n t row s) where
     pub safe : (1 ≤ p) × (p * message_width ≤ length t)
     safe = (first_place, in_table ready last_place)
 
-    pub found_message : {m : Message} → m ≡ message_in t (record { 0 = p }) → length m ≡ message_width → Offers i (messages n t) s m
-    unfolding item_in
-    found_message q l =
-        let g = found (Argument.at i) (taken_by s) (arguments_of s) p e in
-        record {
-          message =
-              q
-              ∙ yes [] g
-              (sym (message_at_lem n t (record { 0 = p }) first_place last_place)
-              ∙ ap (λ (x : ℕ). message_at (messages n t) (record { 0 = x })) (found_number (Argument.at i) (taken_by s) (arguments_of s) p e));
-          long = l ∙ yes 0 g refl;
-        }
+    pub found_message : message_at (messages n t) (record { 0 = p }) ≡ message_in t (record { 0 = p })
+    found_message = message_at_lem n t (record { 0 = p }) first_place last_place
 
   -- a, where it is not his own
-  module _ (p : ℕ) (e : p ≡ number_in Argument.a s) (h : p ≡ 0 → ⊥) where
+  module _ (p : ℕ) (e : p ≡ number_in Argument.A s) (h : p ≡ 0 → ⊥) where
     given_account : p ≤ n
     unfolding number_in
-    given_account = by (gives Argument.a (taken_by s)) refl
+    given_account = by (gives Argument.A (taken_by s)) refl
       where
-        by : (b : Bool) → gives Argument.a (taken_by s) ≡ b → p ≤ n
-        by true w = leb-true _ _ (subst (λ (x : ℕ). leb x n ≡ true) (sym e) (place_passed Argument.a w))
-        by false w = absurd (h (e ∙ not_given Argument.a (taken_by s) (arguments_of s) w))
+        by : (b : Bool) → gives Argument.A (taken_by s) ≡ b → p ≤ n
+        by true w = leb-true _ _ (subst (λ (x : ℕ). leb x n ≡ true) (sym e) (place_passed Argument.A w))
+        by false w = absurd (h (e ∙ not_given Argument.A (taken_by s) (arguments_of s) w))
 
     pub account_safe : (1 ≤ p) × (p * message_width ≤ length t)
     account_safe = (positive p h, in_table ready given_account)
@@ -134,11 +98,11 @@ module _ {n : ℕ} {t row s : List ℕ} (ready : Ready n t row s) where
     pub account_copied : (slip_in (message_in t (record { 0 = p }))).account ≡ account_in (messages n t) s
     unfolding account_in number_in
     account_copied =
-        no _ (ne_eqb _ 0 (λ (z : given Argument.a (taken_by s) (arguments_of s) ≡ 0). h (e ∙ z)))
+        no _ (ne_eqb _ 0 (λ (z : given Argument.A (taken_by s) (arguments_of s) ≡ 0). h (e ∙ z)))
         (ap (λ (x : Message). (slip_in x).account)
         (sym (message_at_lem n t (record { 0 = p }) account_safe.0 given_account)
         ∙ ap (λ (x : ℕ). message_at (messages n t) (record { 0 = x })) e))
 
-pub account_own : (R : Record) (s : List ℕ) (p : ℕ) → p ≡ number_in Argument.a s → p ≡ 0 → ◌≡◌ {A = Account} (record { 0 = 0 }) (account_in R s)
+pub account_own : (R : Record) (s : List ℕ) (p : ℕ) → p ≡ number_in Argument.A s → p ≡ 0 → ◌≡◌ {A = Account} (record { 0 = 0 }) (account_in R s)
 unfolding account_in number_in
 account_own R s p e z = yes _ (eq-eqb _ 0 (sym e ∙ z)) refl

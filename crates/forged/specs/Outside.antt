@@ -1,7 +1,8 @@
 -- What the outsider's message is made from, by the step as its seven numbers: the definitions of document 01's forged steps at the row
 -- and the arguments of a step.
-use Rattle.std.specs.Prelude.{cond, List, [], ◌≡◌, ℕ, length}
-use Rattle.messages.specs.Layout.{Kind, message_width}
+use Rattle.std.specs.Prelude.{cond, false, List, MatchOption, Option, true, ◌≡◌, ℕ}
+use Rattle.std.specs.Borrow.{Bor}
+use Rattle.messages.specs.declared.kind.Kind.{Kind}
 use Rattle.messages.specs.Parts.{Message, owner_of}
 use Rattle.record.specs.Table.{Record}
 use Rattle.messages.specs.declared.parts.Account.{Account}
@@ -9,8 +10,10 @@ use Rattle.messages.specs.declared.parts.Buyer.{Buyer}
 use Rattle.messages.specs.declared.parts.Drawn.{Drawn}
 use Rattle.messages.specs.declared.parts.Slip.{Slip}
 use Rattle.messages.specs.declared.signed.BuyerSigned.{BuyerSigned}
-use Rattle.rules.specs.Codes.{Argument, Item, item_letter, row_of}
-use Rattle.rules.specs.Forged.{account, buyer, buyer_signature, drawn, forged, given, gives, hashed, item_or, mark, seller, slip}
+use Rattle.rules.specs.Codes.{row_of}
+use Rattle.rules.specs.declared.codes.Argument.{Argument}
+use Rattle.rules.specs.declared.codes.Item.{Item}
+use Rattle.rules.specs.Forged.{account, buyer, buyer_signature, copied, drawn, forged, given, gives, hashed, item_or, mark, seller, slip}
 use Rattle.rules.specs.Step.{arguments_of, code_of}
 use Rattle.forged.specs.declared.added.Gathered.{Gathered}
 
@@ -32,15 +35,11 @@ buyer_in x s = cond (gives Argument.B (taken_by s)) (record { 0 = number_in Argu
 unfoldable pub item_in : {A : Type 0} → Item → (Message → A) → A → Record → List ℕ → A
 item_in i read built R s = item_or R (taken_by s) (arguments_of s) i read built
 
--- a name in the code's table that stands for an item
-pub record NamesItem (name : ℕ) : Type 0 where
-  pub item : Item
-  pub its_letter : item_letter item ≡ name
-
--- m is the message that the step gives for an item, or nothing where it gives none
-pub record Offers (i : Item) (R : Record) (s : List ℕ) (m : Message) : Type 0 where
-  pub message : m ≡ item_in i (λ (x : Message). x) [] R s
-  pub long : length m ≡ cond (gives (Argument.at i) (taken_by s)) message_width 0
+-- o is the message that the step gives for an item, or none where it gives none
+abbrev pub Offers : Item → Record → List ℕ → Option (Bor (List ℕ)) → Type 0
+Offers i R s o =
+    MatchOption o (gives (Argument.At i) (taken_by s) ≡ false)
+    (λ m. (gives (Argument.At i) (taken_by s) ≡ true) × (m.now ≡ copied R (taken_by s) (arguments_of s) i))
 
 unfoldable pub gathered_in : Record → List ℕ → Gathered
 gathered_in R s =

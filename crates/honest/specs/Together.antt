@@ -1,14 +1,6 @@
 -- Claims that the code tests together. The condition of a step, as the rules list it, is some of these one after the other.
 use Rattle.std.specs.Prelude.{ℕ, ◌+◌, List, [], ◌∷◌, get_or}
-use Rattle.messages.specs.Layout.{
-  body,
-  destination,
-  initiate_account,
-  maker,
-  mark_buyer,
-  request_slip,
-  source,
-}
+use Rattle.messages.specs.Layout.{body, destination, initiate_account, maker, mark_buyer, request_slip, source}
 use Rattle.messages.specs.Parts.{Message, account_of, buyer_at, slip_width}
 use Rattle.messages.specs.declared.parts.Buyer.{Buyer}
 use Rattle.messages.specs.declared.parts.Mark.{Mark}

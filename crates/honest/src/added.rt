@@ -1,4 +1,4 @@
-// The messages that the honest steps add.
+// The messages that the honest steps add. Those they are made from are slices of 48 numbers, as in `allowed`.
 ghost use Rattle.std.specs.Prelude.{◌≡◌, ◌<◌, length};
 ghost use Rattle.messages.specs.Layout.{message_width};
 ghost use Rattle.rules.specs.Honest.{asked as asked_by, code_for, invoiced as invoiced_by, paid as paid_by, replied as replied_by, started as started_by};
@@ -88,18 +88,16 @@ pub fn asked(seller: Seller, invoice: &[u16], payment: &[u16]) -> [u16; MESSAGE_
     )
 }
 
-// 1 is yes, 2 is no: bit b of the answers is set when account b is good.
+// 1 is yes, 2 is no, the number that stands in the reply: bit b of the answers is set when account b is good.
 fn code_for(answers: u16, account: Account) -> u16
     ensures { result ≡ code_for answers account }
 {
     let b = account.0;
-    if 15 < b {
-        return 2;
+    if b <= 15 && (answers >> b) & 1 == 1 {
+        1
+    } else {
+        2
     }
-    if (answers >> b) & 1 == 1 {
-        return 1;
-    }
-    2
 }
 
 pub fn replied(answers: u16, request: &[u16]) -> [u16; MESSAGE_WIDTH]
@@ -107,9 +105,7 @@ pub fn replied(answers: u16, request: &[u16]) -> [u16; MESSAGE_WIDTH]
     ensures { result ≡ replied_by answers request.now }
 {
     let mark = mark_at(request, BODY);
-    let slip = slip_at(request, REQUEST_SLIP);
-    let account = slip.account;
-    let code = code_for(answers, account);
+    let code = code_for(answers, slip_at(request, REQUEST_SLIP).account);
     let signed = ReplySigned {
         signer: Gateway(HOUSE),
         code,

@@ -1,5 +1,5 @@
 // The conditions of the honest steps: a step whose condition does not hold is refused with 6. Step 1 is always allowed, and 38 has the
-// condition of step 3.
+// condition of step 3. Messages are slices of 48 numbers: a type of their own would ask more of those who call the public functions.
 ghost use Rattle.std.specs.Prelude.{◌≡◌, length};
 ghost use Rattle.honest.specs.Together.{for_house, own_initiate, own_invoice};
 ghost use Rattle.messages.specs.Layout.{message_width};
@@ -12,8 +12,7 @@ use messages::layout::{
     REQUEST_BUYER_SIGNED, REQUEST_SIGNED, REQUEST_SLIP, SOURCE,
 };
 use messages::parts::{
-    Buyer, HOUSE, Hashed, MARK_WIDTH, Mark, Seller, Slip, hashed_at, mark_at, owner, same_mark,
-    slip_at,
+    Buyer, HOUSE, Hashed, MARK_WIDTH, Mark, Seller, Slip, hashed_at, mark_at, owner, slip_at,
 };
 
 pub fn may_invoice(seller: Seller, initiate: &[u16]) -> bool
@@ -41,31 +40,21 @@ fn is_own_initiate(buyer: Buyer, initiate: &[u16]) -> bool
     requires { length initiate.now ≡ message_width }
     ensures { result ≡ all holds (own_initiate buyer initiate.now) }
 {
-    if initiate[MAKER] != buyer.0 {
-        return false;
-    }
-    if initiate[SOURCE] != buyer.0 {
-        return false;
-    }
-    initiate[INITIATE_ACCOUNT] == buyer.0
+    initiate[MAKER] == buyer.0
+        && initiate[SOURCE] == buyer.0
+        && initiate[INITIATE_ACCOUNT] == buyer.0
 }
 
 pub fn may_pay(buyer: Buyer, initiate: &[u16], invoice: &[u16]) -> bool
     requires { (length initiate.now ≡ message_width) × (length invoice.now ≡ message_width) }
     ensures { result ≡ all holds (pay_claims buyer initiate.now invoice.now) }
 {
-    if !is_own_initiate(buyer, initiate) {
-        return false;
-    }
     let seller = Seller(initiate[DESTINATION]);
-    if !goes(invoice, seller.0, buyer.0) {
-        return false;
-    }
     let mark = order_mark(buyer, initiate);
-    if !mark_is(invoice, BODY, mark) {
-        return false;
-    }
-    is_signed_by_seller(invoice, INVOICE_SIGNED, seller, mark)
+    is_own_initiate(buyer, initiate)
+        && goes(invoice, seller.0, buyer.0)
+        && mark_is(invoice, BODY, mark)
+        && is_signed_by_seller(invoice, INVOICE_SIGNED, seller, mark)
 }
 
 // The Invoice is the seller's own, and its mark is for the buyer to whom it went.
@@ -73,32 +62,22 @@ fn is_own_invoice(seller: Seller, invoice: &[u16]) -> bool
     requires { length invoice.now ≡ message_width }
     ensures { result ≡ all holds (own_invoice seller invoice.now) }
 {
-    if invoice[MAKER] != seller.0 {
-        return false;
-    }
-    if invoice[SOURCE] != seller.0 {
-        return false;
-    }
-    if invoice[BODY] != seller.0 {
-        return false;
-    }
-    invoice[MARK_BUYER] == invoice[DESTINATION]
+    invoice[MAKER] == seller.0
+        && invoice[SOURCE] == seller.0
+        && invoice[BODY] == seller.0
+        && invoice[MARK_BUYER] == invoice[DESTINATION]
 }
 
 pub fn may_ask(seller: Seller, invoice: &[u16], payment: &[u16]) -> bool
     requires { (length invoice.now ≡ message_width) × (length payment.now ≡ message_width) }
     ensures { result ≡ all holds (ask_claims seller invoice.now payment.now) }
 {
-    if !is_own_invoice(seller, invoice) {
-        return false;
-    }
     let buyer = Buyer(invoice[DESTINATION]);
-    if !goes(payment, buyer.0, seller.0) {
-        return false;
-    }
     let slip = slip_at(payment, BODY);
     let mark = mark_at(invoice, BODY);
-    is_signed_by_buyer(payment, PAYMENT_SIGNED, buyer, slip, mark)
+    is_own_invoice(seller, invoice)
+        && goes(payment, buyer.0, seller.0)
+        && is_signed_by_buyer(payment, PAYMENT_SIGNED, buyer, slip, mark)
 }
 
 // The mark that a slip is for, if this seller asks.
@@ -120,35 +99,21 @@ fn is_for_house(request: &[u16]) -> bool
     requires { length request.now ≡ message_width }
     ensures { result ≡ all holds (for_house request.now) }
 {
-    if request[DESTINATION] != HOUSE {
-        return false;
-    }
-    request[REQUEST_SLIP] == HOUSE
+    request[DESTINATION] == HOUSE && request[REQUEST_SLIP] == HOUSE
 }
 
 pub fn may_reply(request: &[u16]) -> bool
     requires { length request.now ≡ message_width }
     ensures { result ≡ all holds (reply_claims request.now) }
 {
-    if !is_for_house(request) {
-        return false;
-    }
     let seller = Seller(request[SOURCE]);
     let mark = mark_at(request, BODY);
     let slip = slip_at(request, REQUEST_SLIP);
-    if !mark_is(request, REQUEST_SLIP + 1, mark) {
-        return false;
-    }
-    let rebuilt = rebuilt_mark(seller, slip);
-    if !same_mark(mark, rebuilt) {
-        return false;
-    }
-    if !is_signed_by_seller(request, REQUEST_SIGNED, seller, mark) {
-        return false;
-    }
-    if !slip_is(request, REQUEST_SIGNED + 1 + MARK_WIDTH, slip) {
-        return false;
-    }
     let buyer = owner(slip.account);
-    is_signed_by_buyer(request, REQUEST_BUYER_SIGNED, buyer, slip, mark)
+    is_for_house(request)
+        && slip.mark == mark
+        && mark == rebuilt_mark(seller, slip)
+        && is_signed_by_seller(request, REQUEST_SIGNED, seller, mark)
+        && slip_is(request, REQUEST_SIGNED + 1 + MARK_WIDTH, slip)
+        && is_signed_by_buyer(request, REQUEST_BUYER_SIGNED, buyer, slip, mark)
 }

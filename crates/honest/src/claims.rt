@@ -8,22 +8,20 @@ ghost use Rattle.messages.specs.Tests.{all};
 ghost use Rattle.rules.specs.Honest.{holds, mark_is, slip_is};
 
 use messages::layout::{DESTINATION, SOURCE};
-use messages::parts::{
-    Buyer, Mark, SLIP_WIDTH, Seller, Slip, mark_at, same_mark, same_slip, slip_at,
-};
+use messages::parts::{Buyer, Mark, SLIP_WIDTH, Seller, Slip, mark_at, slip_at};
 
 pub fn mark_is(m: &[u16], k: usize, wanted: Mark) -> bool
     requires { k + mark_width ≤ length m.now }
     ensures { result ≡ holds (mark_is m.now k wanted) }
 {
-    same_mark(mark_at(m, k), wanted)
+    mark_at(m, k) == wanted
 }
 
 pub fn slip_is(m: &[u16], k: usize, wanted: Slip) -> bool
     requires { k + slip_width ≤ length m.now }
     ensures { result ≡ holds (slip_is m.now k wanted) }
 {
-    same_slip(slip_at(m, k), wanted)
+    slip_at(m, k) == wanted
 }
 
 // Its source and its destination are these.
@@ -31,10 +29,7 @@ pub fn goes(m: &[u16], from: u16, to: u16) -> bool
     requires { length m.now ≡ message_width }
     ensures { result ≡ all holds (goes_from m.now from to) }
 {
-    if m[SOURCE] != from {
-        return false;
-    }
-    m[DESTINATION] == to
+    m[SOURCE] == from && m[DESTINATION] == to
 }
 
 // A seller's signature at a position, so far as it is over a mark.
@@ -42,10 +37,7 @@ pub fn is_signed_by_seller(m: &[u16], k: usize, seller: Seller, mark: Mark) -> b
     requires { k + invoice_signed_width ≤ length m.now }
     ensures { result ≡ all holds (seller_signed m.now k seller mark) }
 {
-    if m[k] != seller.0 {
-        return false;
-    }
-    mark_is(m, k + 1, mark)
+    m[k] == seller.0 && mark_is(m, k + 1, mark)
 }
 
 // A buyer's signature at a position.
@@ -53,11 +45,5 @@ pub fn is_signed_by_buyer(m: &[u16], k: usize, buyer: Buyer, slip: Slip, mark: M
     requires { k + buyer_signed_width ≤ length m.now }
     ensures { result ≡ all holds (buyer_signed m.now k buyer slip mark) }
 {
-    if m[k] != buyer.0 {
-        return false;
-    }
-    if !slip_is(m, k + 1, slip) {
-        return false;
-    }
-    mark_is(m, k + 1 + SLIP_WIDTH, mark)
+    m[k] == buyer.0 && slip_is(m, k + 1, slip) && mark_is(m, k + 1 + SLIP_WIDTH, mark)
 }

@@ -11,9 +11,9 @@ ghost use Rattle.steptext.specs.Read.{read_text};
 
 use messages::parts::Place;
 use reports::report::report;
-use runs::run::{Ran, run};
-use step::judge::{Answer, step};
-use steptext::read::{TextRead, read_text};
+use runs::run::run;
+use step::judge::step;
+use steptext::read::read_text;
 
 pub fn kp_step(
     table: &mut [u16],
@@ -31,13 +31,13 @@ pub fn kp_step(
     ensures { Stepped n table.old (judge_table answers n table.old (code ∷ a1 ∷ a2 ∷ a3 ∷ a4 ∷ a5 ∷ a6 ∷ [])) result place.new table.new }
 {
     match step(table, n, answers, [code, a1, a2, a3, a4, a5, a6]) {
-        Answer::Accepted(p) => {
-            *place = p.0 as u16;
+        Ok(new) => {
+            *place = new.0 as u16;
             0
         }
-        Answer::Refused(number) => {
+        Err(refusal) => {
             *place = 0;
-            number
+            u8::from(refusal)
         }
     }
 }
@@ -52,13 +52,13 @@ pub fn kp_run(
     ensures { RanBy (run_of answers table.old steps.now verdicts.old) result n.new table.new verdicts.new }
 {
     match run(table, answers, steps, verdicts) {
-        Ran::Messages(count) => {
+        Ok(count) => {
             *n = count as u16;
             0
         }
-        Ran::Refused(number) => {
+        Err(refusal) => {
             *n = 0;
-            number
+            u8::from(refusal)
         }
     }
 }
@@ -66,7 +66,10 @@ pub fn kp_run(
 pub fn kp_report(table: &[u16], n: usize, place: usize) -> u8
     ensures { result ≡ report_of n table.now (record { 0 = place }) }
 {
-    report(table, n, Place(place))
+    match report(table, n, Place(place)) {
+        Ok(verdict) => u8::from(verdict),
+        Err(refusal) => u8::from(refusal),
+    }
 }
 
 pub fn kp_read(
@@ -82,15 +85,14 @@ pub fn kp_read(
     *count = 0;
     *line = 0;
     match read_text(text, steps) {
-        TextRead::Says(said, n) => {
-            *answers = said;
-            *count = n as u16;
+        Ok(said) => {
+            *answers = said.answers;
+            *count = said.count as u16;
             0
         }
-        TextRead::Unreadable(at) => {
-            *line = at as u16;
-            10
+        Err(refusal) => {
+            *line = refusal.line() as u16;
+            u8::from(refusal)
         }
-        TextRead::TooLong => 11,
     }
 }

@@ -1,4 +1,5 @@
-// The entries of `host` for C, each under its name and with its promise: the static library that host/kp_bench.h describes.
+// The entries of `host` for C, each under its name and with its promise: the static library that host/kp_bench.h describes. C wants them once more:
+// other crates rest on those of `host`, which a static library does not lend them.
 #![tactic(auto)]
 
 ghost use Rattle.std.specs.Prelude.{[], ◌∷◌, ◌≡◌, length};

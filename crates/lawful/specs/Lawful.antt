@@ -1,5 +1,5 @@
 -- Which messages are lawful: a row of ranges for each kind, written with the part names of the layout.
-use Rattle.std.specs.Prelude.{ℕ, ◌-◌, Bool, true, false, cond, ◌&&◌, List, [], ◌∷◌, ◌++◌, eqb, get_or, length}
+use Rattle.std.specs.Prelude.{ℕ, ◌-◌, Bool, true, false, ◌&&◌, List, [], ◌∷◌, ◌++◌, eqb, get_or, length}
 use Rattle.messages.specs.Layout.{filled, kind_of, message_width}
 use Rattle.messages.specs.Parts.{Message}
 use Rattle.messages.specs.Tests.{between}
@@ -69,21 +69,3 @@ fits (r ∷ rs) (x ∷ xs) = within r x && fits rs xs
 -- kind 0 is not in the range of kinds, and past kind 5 there is no row
 abbrev pub lawful : Message → Bool
 lawful m = eqb (length m) message_width && fits (get_or kind_ranges (kind_of m - 1) []) m
-
--- the letters that stand for ranges in the code's table
-abbrev pub letter : Range → ℕ
-letter unused = 45
-letter kinds = 75
-letter buyers = 66
-letter sellers = 83
-letter gateways = 71
-letter accounts = 65
-letter draws = 68
-letter codes = 67
-
-abbrev pub range_lettered : ℕ → Range
-range_lettered c =
-    cond (eqb c 75) kinds
-    (cond (eqb c 66) buyers
-    (cond (eqb c 83) sellers
-    (cond (eqb c 65) accounts (cond (eqb c 71) gateways (cond (eqb c 68) draws (cond (eqb c 67) codes unused))))))

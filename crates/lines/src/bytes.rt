@@ -9,14 +9,11 @@ pub const LINE_FEED: u8 = b'\n';
 // Where the next byte of a kind stands; the length of the text where there is none.
 pub fn next_at(text: &[u8], from: usize, kind: u8) -> usize
     requires { from ≤ length text.now }
-    ensures { (result ≡ from + before kind (drop from text.now)) × (result ≤ length text.now) }
+    ensures place { result ≡ from + before kind (drop from text.now) }
+    ensures within { result ≤ length text.now }
 {
-    let mut at = from;
-    while at < text.len() {
-        if text[at] == kind {
-            return at;
-        }
-        at += 1;
+    match text[from..].iter().position(|byte| *byte == kind) {
+        Some(ahead) => from + ahead,
+        None => text.len(),
     }
-    at
 }

@@ -1,21 +1,17 @@
 // The lines of a text, line feed and all: the work of the reader.
-ghost use Rattle.std.specs.Prelude.{◌≡◌};
-ghost use Rattle.lines.specs.Lines.{line_at};
+ghost use Rattle.lines.specs.Handed.{Hands};
 
 use crate::bytes::{LINE_FEED, next_at};
 
-// The line that starts at a position; nothing past the end.
-pub fn line_at(text: &[u8], at: usize) -> &[u8]
-    ensures { result.now ≡ line_at text.now at }
+// The line that starts at a position; none past the end.
+pub fn line_at(text: &[u8], at: usize) -> Option<&[u8]>
+    ensures { Hands text.now at result }
 {
-    let len = text.len();
-    if len <= at {
-        return &text[len..len];
+    if text.len() <= at {
+        return None;
     }
     let end = next_at(text, at, LINE_FEED);
-    if end == len {
-        return &text[at..len];
-    }
-    let past = end + 1;
-    &text[at..past]
+    // The last line may lack its line feed.
+    let past = text.len().min(end + 1);
+    Some(&text[at..past])
 }

@@ -1,7 +1,10 @@
-// The four messages of a payment, by its mark.
-ghost use Rattle.std.specs.Prelude.{◌≡◌};
+// The four messages of a payment, by its mark, and which of them have been seen.
+ghost use Rattle.std.specs.Prelude.{[], ◌∷◌, ◌++◌, ◌≡◌};
+ghost use Rattle.look.specs.Looked.{seen_of, wanted_by};
+ghost use Rattle.record.specs.Table.{Record};
 ghost use Rattle.rules.specs.Report.{its_initiate, its_invoice, its_payment, its_request, its_slip};
 
+use crate::look::Seen;
 use building::build::{auth_request, initiate, invoice, payment};
 use messages::layout::MESSAGE_WIDTH;
 use messages::parts::{Gateway, HOUSE, Mark, Slip};
@@ -74,4 +77,36 @@ pub fn its_request(mark: Mark) -> [u16; MESSAGE_WIDTH]
         signed,
         signed_by_buyer,
     )
+}
+
+// All four.
+#[derive(Drop)]
+pub struct Wanted {
+    initiate: [u16; MESSAGE_WIDTH],
+    invoice: [u16; MESSAGE_WIDTH],
+    payment: [u16; MESSAGE_WIDTH],
+    request: [u16; MESSAGE_WIDTH],
+}
+
+impl Wanted {
+    pub fn new(mark: Mark) -> Wanted
+        ensures { result ≡ wanted_by mark }
+    {
+        Wanted {
+            initiate: its_initiate(mark),
+            invoice: its_invoice(mark),
+            payment: its_payment(mark),
+            request: its_request(mark),
+        }
+    }
+
+    // What has been seen becomes what has been seen with one message more.
+    pub fn note(&self, seen: &mut Seen, m: &[u16])
+        ensures { (R : Record) → seen.old ≡ seen_of self.now R → seen.new ≡ seen_of self.now (R ++ (m.now ∷ [])) }
+    {
+        seen.initiated |= m == self.initiate.as_slice();
+        seen.invoiced |= m == self.invoice.as_slice();
+        seen.paid |= m == self.payment.as_slice();
+        seen.asked |= m == self.request.as_slice();
+    }
 }

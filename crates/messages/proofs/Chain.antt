@@ -1,13 +1,10 @@
 -- Chains of tests, as code that returns early meets them: a test that passed is skipped, one that failed stops the chain.
-use mathlib.Core.Bool.{Bool, true, false, ◌&&◌, and-true, and_assoc, true≢false, false≢true}
-use mathlib.Core.List.{List, [], ◌∷◌, ◌++◌}
-use mathlib.Core.Path.{◌≡◌, ◌∙◌, refl, sym, ap, subst}
+use mathlib.Core.Bool.{Bool, true, false, ◌&&◌, and-true, true≢false, false≢true}
+use mathlib.Core.Path.{◌≡◌, ◌∙◌, refl, sym, subst}
 use Prim.Native.Nat.{ℕ, ◌≤◌, ◌<◌}
-use native.Mathlib.Omega.{arith}
 use borrow.Author.Tests.{le-leb, leb-true, lt-leb}
-use lib.Dec.{eqb, leb}
-use lib.ListN.{length}
-use Rattle.messages.specs.Tests.{between, same}
+use lib.Dec.{leb}
+use Rattle.messages.specs.Tests.{between}
 
 pub skip : {a b r : Bool} → a ≡ true → r ≡ b → r ≡ (a && b)
 skip {a} {b} {r} p q = subst (λ (x : Bool). r ≡ (x && b)) (sym p) q
@@ -46,14 +43,6 @@ below u p = sym (stop _ (lt-leb _ _ p))
 
 pub above : {l x u : ℕ} → l ≤ x → u < x → between l x u ≡ false
 above p q = sym (skip (le-leb _ _ p) (sym (lt-leb _ _ q)))
-
--- two lists are compared part by part
-pub same_parts : (xs us ys vs : List ℕ) → length xs ≡ length us → same (xs ++ ys) (us ++ vs) ≡ (same xs us && same ys vs)
-same_parts [] [] ys vs e = refl
-same_parts [] (u ∷ us) ys vs e = absurd (omega arith)
-same_parts (x ∷ xs) [] ys vs e = absurd (omega arith)
-same_parts (x ∷ xs) (u ∷ us) ys vs e =
-    ap (λ (b : Bool). eqb x u && b) (same_parts xs us ys vs (omega arith)) ∙ sym (and_assoc (eqb x u) (same xs us) (same ys vs))
 
 -- a loop that leaves at the first test that fails: x is what is asked from here on, r the test here, y what is asked after it
 pub leaves : {x : Bool} (r y : Bool) → x ≡ (r && y) → r ≡ false → false ≡ x

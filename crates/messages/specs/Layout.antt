@@ -20,9 +20,8 @@ use Rattle.messages.specs.declared.signed.BuyerSigned.{BuyerSigned}
 use Rattle.messages.specs.declared.signed.InvoiceSigned.{InvoiceSigned}
 use Rattle.messages.specs.declared.signed.ReplySigned.{ReplySigned}
 use Rattle.messages.specs.declared.signed.RequestSigned.{RequestSigned}
-
-pub data Kind : Type 0 where
-  Initiate Invoice Payment AuthRequest AuthResponse : Kind
+use Rattle.messages.specs.declared.kind.Kind.{Kind}
+use Rattle.messages.specs.declared.kind.Kind.TheVariants.{AuthRequest, AuthResponse, Initiate, Invoice, Payment}
 
 abbrev pub kind_number : Kind → ℕ
 kind_number Initiate = 1

@@ -3,16 +3,6 @@
 use crate::parts::{DRAWN_WIDTH, MARK_WIDTH, SLIP_WIDTH};
 use crate::signed::{BUYER_SIGNED_WIDTH, REQUEST_SIGNED_WIDTH};
 
-pub const INITIATE: u16 = 1;
-
-pub const INVOICE: u16 = 2;
-
-pub const PAYMENT: u16 = 3;
-
-pub const AUTH_REQUEST: u16 = 4;
-
-pub const AUTH_RESPONSE: u16 = 5;
-
 // What every kind begins with.
 pub const KIND: usize = 0;
 

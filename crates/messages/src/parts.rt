@@ -1,4 +1,4 @@
-// The parties, each a sort of its own, and the parts that messages are made of: read from a message, and compared.
+// The parties, each a sort of its own, and the parts that messages are made of, read from a message. Two parts are compared by `==`.
 ghost use Rattle.std.specs.Prelude.{◌≡◌, ◌+◌, ◌≤◌, length};
 ghost use Rattle.messages.specs.Parts.{
   drawn_at,
@@ -8,10 +8,6 @@ ghost use Rattle.messages.specs.Parts.{
   mark_at,
   mark_width,
   owner_of,
-  same_drawn,
-  same_hashed,
-  same_mark,
-  same_slip,
   slip_at,
   slip_width,
 };
@@ -25,42 +21,42 @@ pub const MARK_WIDTH: usize = 2 + HASHED_WIDTH;
 pub const SLIP_WIDTH: usize = 1 + MARK_WIDTH + 1 + DRAWN_WIDTH;
 
 // Buyer 3, seller 3, account 3 and place 3 are four different things.
-#[derive(Clone, Copy)]
+#[derive(Clone, Copy, PartialEq, Eq)]
 pub struct Buyer(pub u16);
 
-#[derive(Clone, Copy)]
+#[derive(Clone, Copy, PartialEq, Eq)]
 pub struct Seller(pub u16);
 
-#[derive(Clone, Copy)]
+#[derive(Clone, Copy, PartialEq, Eq)]
 pub struct Gateway(pub u16);
 
-#[derive(Clone, Copy)]
+#[derive(Clone, Copy, PartialEq, Eq)]
 pub struct Account(pub u16);
 
-#[derive(Clone, Copy)]
+#[derive(Clone, Copy, PartialEq, Eq)]
 pub struct Place(pub usize);
 
-// Gateway 1 is the house, gateway 0 the outsider's false one.
+// Gateway 1 is the house, gateway 0 the outsider's false one: as numbers, which they are compared with in messages.
 pub const HOUSE: u16 = 1;
 
 pub const FALSE_GATEWAY: u16 = 0;
 
 // Who drew a random number, and the number.
-#[derive(Clone, Copy)]
+#[derive(Clone, Copy, PartialEq, Eq)]
 pub struct Drawn {
     pub drawer: Buyer,
     pub draw: u16,
 }
 
 // A hashed account.
-#[derive(Clone, Copy)]
+#[derive(Clone, Copy, PartialEq, Eq)]
 pub struct Hashed {
     pub drawn: Drawn,
     pub account: Account,
 }
 
 // The hash of Common.
-#[derive(Clone, Copy)]
+#[derive(Clone, Copy, PartialEq, Eq)]
 pub struct Mark {
     pub seller: Seller,
     pub buyer: Buyer,
@@ -68,7 +64,7 @@ pub struct Mark {
 }
 
 // What only the gateway with this key can read.
-#[derive(Clone, Copy)]
+#[derive(Clone, Copy, PartialEq, Eq)]
 pub struct Slip {
     pub key: Gateway,
     pub mark: Mark,
@@ -83,6 +79,7 @@ pub fn owner(account: Account) -> Buyer
     Buyer(account.0)
 }
 
+// Each of these four reads other fields, so that they are no copies of one another.
 pub fn drawn_at(m: &[u16], k: usize) -> Drawn
     requires { k + drawn_width ≤ length m.now }
     ensures { result ≡ drawn_at m.now k }
@@ -129,49 +126,4 @@ pub fn slip_at(m: &[u16], k: usize) -> Slip
         account: Account(m[rest]),
         drawn,
     }
-}
-
-pub fn same_drawn(a: Drawn, b: Drawn) -> bool
-    ensures { result ≡ same_drawn a b }
-{
-    if a.drawer.0 != b.drawer.0 {
-        return false;
-    }
-    a.draw == b.draw
-}
-
-pub fn same_hashed(a: Hashed, b: Hashed) -> bool
-    ensures { result ≡ same_hashed a b }
-{
-    if !same_drawn(a.drawn, b.drawn) {
-        return false;
-    }
-    a.account.0 == b.account.0
-}
-
-pub fn same_mark(a: Mark, b: Mark) -> bool
-    ensures { result ≡ same_mark a b }
-{
-    if a.seller.0 != b.seller.0 {
-        return false;
-    }
-    if a.buyer.0 != b.buyer.0 {
-        return false;
-    }
-    same_hashed(a.hashed, b.hashed)
-}
-
-pub fn same_slip(a: Slip, b: Slip) -> bool
-    ensures { result ≡ same_slip a b }
-{
-    if a.key.0 != b.key.0 {
-        return false;
-    }
-    if !same_mark(a.mark, b.mark) {
-        return false;
-    }
-    if a.account.0 != b.account.0 {
-        return false;
-    }
-    same_drawn(a.drawn, b.drawn)
 }

@@ -44,7 +44,7 @@ pub struct RequestSigned {
     pub slip: Slip,
 }
 
-// By a gateway, over the code of an Auth-Response and the mark.
+// By a gateway, over the code of an Auth-Response and the mark. The code is a number, since a message that is read may hold any.
 #[derive(Clone, Copy)]
 pub struct ReplySigned {
     pub signer: Gateway,
@@ -52,6 +52,7 @@ pub struct ReplySigned {
     pub mark: Mark,
 }
 
+// Each of these four reads other fields, so that they are no copies of one another.
 pub fn invoice_signed_at(m: &[u16], k: usize) -> InvoiceSigned
     requires { k + invoice_signed_width ≤ length m.now }
     ensures { result ≡ invoice_signed_at m.now k }

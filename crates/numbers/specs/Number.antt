@@ -1,9 +1,7 @@
--- The number that a text says, as the code's enum.
-use Rattle.std.specs.Prelude.{cond}
+-- The number that a text says, if it says one.
+use Rattle.std.specs.Prelude.{ℕ, cond, None, Option, Some}
 use Rattle.lines.specs.Lines.{Text}
 use Rattle.numbers.specs.Digits.{is_number, value_of}
-use Rattle.numbers.specs.declared.Number.{Number}
-use Rattle.numbers.specs.declared.Number.TheVariants.{Is, Unreadable}
 
-abbrev pub number_in : Text → Number
-number_in xs = cond (is_number xs) (Is (value_of xs)) Unreadable
+abbrev pub number_in : Text → Option ℕ
+number_in xs = cond (is_number xs) (Some (value_of xs)) None

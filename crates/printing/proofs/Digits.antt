@@ -26,7 +26,7 @@ size n = told (ltb n 10) refl
     told true e = single (ltb-true n 10 e)
     told false e = several (ltb-false n 10 e)
 
-abbrev last_digit : ℕ → ℕ
+abbrev pub last_digit : ℕ → ℕ
 last_digit n = digit0 + n % 10
 
 pub short : (f n : ℕ) → length (digits f n) ≤ f
@@ -49,11 +49,9 @@ enough (suc f) n h =
     ap (λ (xs : Text). cond (ltb n 10) [] xs ++ (last_digit n ∷ [])) (enough f (n / 10) (omega arith))
 
 -- so the text of a number is that of a tenth and its last digit
-pub decimal_one : (n : ℕ) → n < 10 → decimal n ≡ (digit0 + n) ∷ []
+pub decimal_one : (n : ℕ) → n < 10 → decimal n ≡ last_digit n ∷ []
 unfolding digits
-decimal_one n h =
-    ap (λ (b : Bool). cond b [] (digits 4 (n / 10)) ++ (last_digit n ∷ [])) (lt-ltb n 10 h)
-    ∙ ap (λ (k : ℕ). (digit0 + k) ∷ []) (omega arith)
+decimal_one n h = ap (λ (b : Bool). cond b [] (digits 4 (n / 10)) ++ (last_digit n ∷ [])) (lt-ltb n 10 h)
 
 pub decimal_more : (n : ℕ) → 10 ≤ n → n ≤ most_number → decimal n ≡ decimal (n / 10) ++ (last_digit n ∷ [])
 unfolding digits tens

@@ -1,8 +1,8 @@
 -- Bytes put one after the other are bytes put at once; and a loop that puts piece after piece.
-use Rattle.std.proofs.Common.{List, [], ◌∷◌, ◌++◌, append_assoc, append-nil, ◌≡◌, ◌∙◌, refl, sym, ap, ap₂, subst, ℕ, ◌+◌, ◌/◌, ◌%◌, ◌≤◌, ◌<◌, add-zero, arith, drop, length, length-append, take, take-append-drop, drop_at, drop-drop, length-take-le, take_at}
+use Rattle.std.proofs.Common.{List, [], ◌∷◌, ◌++◌, append_assoc, append-nil, ◌≡◌, ◌∙◌, refl, sym, ap, ap₂, subst, ℕ, ◌+◌, ◌/◌, ◌≤◌, ◌<◌, add-zero, arith, drop, length, length-append, take, take-append-drop, drop_at, drop-drop, length-take-le, take_at}
 use Rattle.lines.specs.Lines.{Text, tab}
-use Rattle.numbers.specs.Digits.{digit0, most_digits, most_number}
-use Rattle.printing.proofs.Digits.{decimal_longer, decimal_more, decimal_one, short}
+use Rattle.numbers.specs.Digits.{most_digits, most_number}
+use Rattle.printing.proofs.Digits.{decimal_longer, decimal_more, decimal_one, last_digit, short}
 use Rattle.printing.specs.Decimal.{decimal}
 use Rattle.printing.specs.Put.{Put}
 use Rattle.printing.specs.Widths.{cell_widest}
@@ -48,13 +48,13 @@ then {before} {between} {after} {p} {q} {r} {m} {k} {xs} {ys} fits first second 
     }
 
 -- a number of one digit, and one of more
-pub number_one : {before after : List ℕ} {p r : ℕ} (n : ℕ) → n < 10 → Put before p ((digit0 + n) ∷ []) 1 after r
+pub number_one : {before after : List ℕ} {p r : ℕ} (n : ℕ) → n < 10 → Put before p (last_digit n ∷ []) 1 after r
     → Put before p (decimal n) most_digits after r
 number_one {before} {after} {p} {r} n h put =
     subst (λ (bs : Text). Put before p bs most_digits after r) (sym (decimal_one n h)) (bounded most_digits put (omega (arith, put.within)))
 
 pub number_more : {before between after : List ℕ} {p q r : ℕ} (n : ℕ) → 10 ≤ n → n ≤ most_number → p + length (decimal n) ≤ length before
-    → Put before p (decimal (n / 10)) most_digits between q → Put between q ((digit0 + n % 10) ∷ []) 1 after r
+    → Put before p (decimal (n / 10)) most_digits between q → Put between q (last_digit n ∷ []) 1 after r
     → Put before p (decimal n) most_digits after r
 number_more {before} {between} {after} {p} {q} {r} n h l fits first second =
     let longer = decimal_longer n h l in

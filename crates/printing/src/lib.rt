@@ -2,4 +2,4 @@
 #![tactic(auto)]
 
 pub mod printed;
-mod put;
+pub mod put;

@@ -1,5 +1,5 @@
-// Bytes and numbers put into a lent table. Each function writes at a place and returns the next.
-ghost use Rattle.std.specs.Prelude.{[], ◌∷◌, ◌+◌, ◌≤◌, length};
+// Bytes and numbers put into a lent table, one behind the other.
+ghost use Rattle.std.specs.Prelude.{[], ◌≡◌, ◌∷◌, ◌+◌, ◌≤◌, length};
 ghost use Rattle.printing.specs.Decimal.{decimal};
 ghost use Rattle.printing.specs.Put.{Put};
 ghost use Rattle.printing.specs.Widths.{cell_widest};
@@ -10,33 +10,45 @@ use lines::bytes::TAB;
 use numbers::MOST_DIGITS;
 
 // The most bytes of a number with its tab: it has at most 5 digits.
-pub const CELL_WIDEST: usize = 1 + MOST_DIGITS;
+pub(crate) const CELL_WIDEST: usize = 1 + MOST_DIGITS;
 
-pub fn put_byte(out: &mut [u8], at: usize, byte: u8) -> usize
-    requires { at + 1 ≤ length out.old }
-    ensures { Put out.old at (byte ∷ []) 1 out.new result }
-{
-    out[at] = byte;
-    at + 1
+// A lent table, and where the next byte goes.
+#[derive(Drop)]
+pub struct Printed<'a> {
+    pub out: &'a mut [u8],
+    pub at: usize,
 }
 
-pub fn put_number(out: &mut [u8], at: usize, n: u16) -> usize
-    requires { at + length (decimal n) ≤ length out.old }
-    ensures { Put out.old at (decimal n) most_digits out.new result }
-{
-    if n < 10 {
-        return put_byte(out, at, b'0' + n as u8);
+impl Printed<'_> {
+    pub(crate) fn byte(&mut self, byte: u8)
+        requires { self.old.at + 1 ≤ length self.old.out.now }
+        ensures same_table { self.new.out.ghost_name ≡ self.old.out.ghost_name }
+        ensures put { Put self.old.out.now self.old.at (byte ∷ []) 1 self.new.out.now self.new.at }
+    {
+        self.out[self.at] = byte;
+        self.at += 1;
     }
-    let next = put_number(out, at, n / 10);
-    put_byte(out, next, b'0' + (n % 10) as u8)
-}
 
-// A number that is not the first part of its line.
-#[tactic(auto, using(crate::proofs::Digits::short, crate::proofs::Digits::decimal_one, crate::proofs::Writing::cell))]
-pub fn put_cell(out: &mut [u8], at: usize, n: u16) -> usize
-    requires { at + cell_widest ≤ length out.old }
-    ensures { Put out.old at (tab ∷ decimal n) cell_widest out.new result }
-{
-    let next = put_byte(out, at, TAB);
-    put_number(out, next, n)
+    // By hand, since std's `write!` into a slice leaves it open whether it fails, and this cannot.
+    pub(crate) fn number(&mut self, n: u16)
+        requires { self.old.at + length (decimal n) ≤ length self.old.out.now }
+        ensures same_table { self.new.out.ghost_name ≡ self.old.out.ghost_name }
+        ensures put { Put self.old.out.now self.old.at (decimal n) most_digits self.new.out.now self.new.at }
+    {
+        if 10 <= n {
+            self.number(n / 10);
+        }
+        self.byte(b'0' + (n % 10) as u8);
+    }
+
+    // A number that is not the first part of its line.
+    #[tactic(auto, using(crate::proofs::Digits::short, crate::proofs::Digits::decimal_one, crate::proofs::Writing::cell))]
+    pub(crate) fn cell(&mut self, n: u16)
+        requires { self.old.at + cell_widest ≤ length self.old.out.now }
+        ensures same_table { self.new.out.ghost_name ≡ self.old.out.ghost_name }
+        ensures put { Put self.old.out.now self.old.at (tab ∷ decimal n) cell_widest self.new.out.now self.new.at }
+    {
+        self.byte(TAB);
+        self.number(n);
+    }
 }

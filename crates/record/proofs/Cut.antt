@@ -9,6 +9,7 @@ use native.Mathlib.Numerals.{add-one}
 use native.Mathlib.Omega.{arith}
 use lib.ListN.{drop, drop_of_length-le, get_or, length, length-append, length-drop, length-take, take, take-append-drop}
 use lib.Seq.{drop-append-le, drop-cons, drop-drop, length-take-le, take-append-le, take_at}
+use Rattle.std.specs.List.{list_all, range_with_len}
 use Rattle.messages.specs.Layout.{message_width}
 use Rattle.messages.specs.Parts.{Message}
 use Rattle.record.specs.Table.{Record, cut, message_at, message_in, messages, with_message}
@@ -44,6 +45,20 @@ test_next f n t i r h e p =
     all_from f (messages n t) [] i (omega (arith, length_cut message_width n t))
     ∙ ap (λ (b : Bool). b && all f (drop (i + 1) (messages n t)))
     (ap f (cut_at message_width n t i h ∙ ap (λ (j : ℕ). take message_width (drop (j * message_width) t)) k ∙ sym e) ∙ sym p)
+
+-- the same test over the places themselves
+pub test_each : (f : Message → Bool) (n : ℕ) (t : List ℕ)
+    → list_all (λ (p : ℕ). f (message_in t (record { 0 = p + 1 }))) (range_with_len 0 n) ≡ all f (messages n t)
+test_each f n t = from 0 n ∙ ap (λ (k : ℕ). all f (messages n (drop k t))) (zero-mul message_width)
+  where
+    from : (i n : ℕ) → list_all (λ (p : ℕ). f (message_in t (record { 0 = p + 1 }))) (range_with_len i n) ≡ all f (messages n (drop (i * message_width) t))
+    from i zero = refl
+    from i (suc n) =
+        let k : i + 1 - 1 ≡ i = omega arith in
+        let e : i * message_width + message_width ≡ (i + 1) * message_width = omega arith in
+        ap₂ ◌&&◌ (ap (λ (j : ℕ). f (take message_width (drop (j * message_width) t))) k)
+        (from (i + 1) n
+        ∙ ap (λ (u : List ℕ). all f (messages n u)) (ap (λ (j : ℕ). drop j t) (sym e) ∙ sym (drop-drop message_width (i * message_width) t)))
 
 pub test_over : (f : Message → Bool) (n : ℕ) (t : List ℕ) (i : ℕ) → i ≡ n → all f (drop i (messages n t)) ≡ true
 test_over f n t i e = ap (all f) (drop_of_length-le (messages n t) {i = i} (le_of_eq (length_cut message_width n t ∙ sym e)))

@@ -1,5 +1,5 @@
--- What refusal 1 lets through: a table of whole messages, at most 512 of them, and a count within its room.
-use mathlib.Core.Bool.{true, ◌&&◌}
+-- What refusal 1 lets through: a table of whole messages, at most 512 of them.
+use mathlib.Core.Bool.{true}
 use mathlib.Core.List.{List}
 use mathlib.Core.Path.{◌≡◌}
 use Prim.Native.Nat.{ℕ, ◌*◌, ◌%◌, ◌≤◌, ◌<◌}
@@ -7,11 +7,9 @@ use native.Mathlib.Omega.{arith}
 use borrow.Author.Tests.{leb-true}
 use lib.Dec.{eqb, leb}
 use lib.ListN.{length}
-use Rattle.messages.proofs.Chain.{left_of, right_of}
-use Rattle.lawful.specs.Lawful.{lawful}
+use Rattle.messages.proofs.Chain.{right_of}
 use Rattle.messages.specs.Layout.{message_width}
-use Rattle.record.specs.Table.{lawful_record, messages, most_room, room_of, whole}
-use Rattle.messages.specs.Tests.{all}
+use Rattle.record.specs.Table.{most_room, room_of, whole}
 
 -- a whole table has room for at most 512
 pub most : (t : List ℕ) → whole t ≡ true → length t ≤ most_room * message_width
@@ -20,9 +18,3 @@ most t e = leb-true _ _ (right_of (eqb (length t % message_width) 0) (leb (lengt
 -- a place with room is one of 512
 pub under_most : (n : ℕ) (t : List ℕ) → whole t ≡ true → n < room_of t → n < most_room
 under_most n t e h = omega (arith, most t e)
-
-pub lawful_whole : (n : ℕ) (t : List ℕ) → lawful_record n t ≡ true → whole t ≡ true
-lawful_whole n t e = left_of (whole t) _ e
-
-pub lawful_room : (n : ℕ) (t : List ℕ) → lawful_record n t ≡ true → n ≤ room_of t
-lawful_room n t e = leb-true _ _ (left_of (leb n (room_of t)) _ (right_of (whole t) (leb n (room_of t) && all lawful (messages n t)) e))

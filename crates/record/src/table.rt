@@ -1,12 +1,12 @@
-// The record: a flat table of numbers, 48 to a message, and how many messages stand in it.
+// The record: a flat table of numbers, 48 to a message, and how many messages stand in it. Table and count are two parameters wherever they go
+// together, since a host in C lends the one and passes the other.
 ghost use Rattle.std.specs.Prelude.{◌≡◌, ◌*◌, ◌+◌, ◌≤◌, length};
 ghost use Rattle.messages.specs.Layout.{message_width};
 ghost use Rattle.messages.specs.Tests.{all};
 ghost use Rattle.lawful.specs.Lawful.{lawful};
-ghost use Rattle.lawful.specs.Lent.{least_numbers, most_numbers};
 ghost use Rattle.record.specs.Table.{lawful_record, message_in, messages, room_of, whole, with_message, with_numbers};
 
-use lawful::{POSITIONS, bounds, is_lawful_by};
+use lawful::is_lawful;
 use messages::layout::MESSAGE_WIDTH;
 use messages::parts::Place;
 
@@ -23,10 +23,7 @@ pub fn room(t: &[u16]) -> usize
 pub fn is_whole(t: &[u16]) -> bool
     ensures { result ≡ whole t.now }
 {
-    if t.len() % MESSAGE_WIDTH != 0 {
-        return false;
-    }
-    t.len() <= MOST_ROOM * MESSAGE_WIDTH
+    t.len() % MESSAGE_WIDTH == 0 && t.len() <= MOST_ROOM * MESSAGE_WIDTH
 }
 
 // The message at a place.
@@ -43,32 +40,15 @@ pub fn message(t: &[u16], place: Place) -> &[u16]
 pub fn is_lawful_record(t: &[u16], n: usize) -> bool
     ensures { result ≡ lawful_record n t.now }
 {
-    if !is_whole(t) {
-        return false;
-    }
-    let places = room(t);
-    if places < n {
-        return false;
-    }
-    let mut least = [0u16; POSITIONS];
-    let mut most = [0u16; POSITIONS];
-    bounds(&mut least, &mut most);
-    are_lawful(&least, &most, t, n)
+    is_whole(t) && n <= room(t) && are_lawful(t, n)
 }
 
-// Messages 1 to n, with the bounds lent.
-fn are_lawful(least: &[u16], most: &[u16], t: &[u16], n: usize) -> bool
-    requires { (least.now ≡ least_numbers) × (most.now ≡ most_numbers) × (n * message_width ≤ length t.now) }
+// Messages 1 to n.
+fn are_lawful(t: &[u16], n: usize) -> bool
+    requires { n * message_width ≤ length t.now }
     ensures { result ≡ all lawful (messages n t.now) }
 {
-    let mut p = 0;
-    while p < n {
-        if !is_lawful_by(least, most, message(t, Place(p + 1))) {
-            return false;
-        }
-        p += 1;
-    }
-    true
+    (0..n).all(|p| is_lawful(message(t, Place(p + 1))))
 }
 
 // Numbers copied into a table; the rest of it stays.
@@ -76,11 +56,7 @@ pub fn copy_into(t: &mut [u16], from: usize, xs: &[u16])
     requires { from + length xs.now ≤ length t.old }
     ensures { t.new ≡ with_numbers from t.old xs.now }
 {
-    let mut i = 0;
-    while i < xs.len() {
-        t[from + i] = xs[i];
-        i += 1;
-    }
+    t[from..from + xs.len()].copy_from_slice(xs);
 }
 
 // A message written into the place after n.

@@ -19,9 +19,12 @@ use Rattle.steptext.proofs.Gathered.{seven}
 use Rattle.steptext.specs.Read.{Reading, most_bytes, read_lines, read_steps, read_text, says, steps_in, too_long, unreadable}
 use Rattle.lines.specs.Lines.{Text, lines}
 use Rattle.says.specs.Text.{answers_in, is_answers_line, is_step_line, step_in}
-use Rattle.steptext.specs.Told.{Leaves, Tells}
-use Rattle.steptext.specs.declared.read.TextRead.{TextRead}
-use Rattle.steptext.specs.declared.read.TextRead.TheVariants.{Says, TooLong, Unreadable}
+use Rattle.steptext.specs.Told.{Leaves, Tells, refusal_line, refusal_number}
+use Rattle.steptext.specs.declared.told.Said.{Said}
+use Rattle.steptext.specs.declared.told.TextRefusal.{TextRefusal}
+use Rattle.steptext.specs.declared.told.TextRefusal.TheVariants.{TooLong, Unreadable}
+use Rattle.printing.specs.Printed.{refused_line}
+use Rattle.std.specs.Prelude.{Err, Ok, Result}
 use Rattle.results.specs.Output.{output, reading, results, results_of}
 use Rattle.printing.specs.Put.{Put}
 use Rattle.rows.specs.Rows.{most_printed}
@@ -31,30 +34,44 @@ use Rattle.results.specs.Shown.{Shows, record_left}
 abbrev pub blank : List ℕ
 blank = replicate (most_steps * step_width) 0
 
-pub told : (text : Text) {steps : List ℕ} {r r' : TextRead} → r ≡ r' → Leaves (read_text (length blank) text) blank r steps
+pub told : (text : Text) {steps : List ℕ} {r r' : Result Said TextRefusal} → r ≡ r' → Leaves (read_text (length blank) text) blank r steps
     → Leaves (reading text) blank r' steps
 told text {steps} {r} {r'} e w =
     subst (λ (k : ℕ). Leaves (read_text k text) blank r' steps) (length-replicate {A = ℕ} (most_steps * step_width) 0)
-    (subst (λ (x : TextRead). Leaves (read_text (length blank) text) blank x steps) e w)
+    (subst (λ (x : Result Said TextRefusal). Leaves (read_text (length blank) text) blank x steps) e w)
 
 pub whole_most : (t : List ℕ) → length t ≡ most_room * message_width → whole t ≡ true
 whole_most t l = ap (λ (k : ℕ). eqb (k % message_width) 0 && leb k (most_room * message_width)) l
 
 -- the answer of the reader decides what was read
-pub is_says : (o : Reading) (answers count : ℕ) → Tells o (Says answers count) → (says answers (steps_in o) ≡ o) × (count ≡ length (steps_in o))
-is_says (says a ss) answers count w = (ap (λ (k : ℕ). says k ss) w.answers, w.count)
-is_says (unreadable at) answers count w = let z = w.number in absurd (omega arith)
-is_says too_long answers count w = let z = w.number in absurd (omega arith)
+pub is_says : (o : Reading) (said : Said) → Tells o (Ok said) → (says said.answers (steps_in o) ≡ o) × (said.count ≡ length (steps_in o))
+is_says (says a ss) said w = (ap (λ (k : ℕ). says k ss) w.answers, w.count)
+is_says (unreadable at) said w = let z = w.number in absurd (omega arith)
+is_says too_long said w = let z = w.number in absurd (omega arith)
 
-pub is_unreadable : (o : Reading) (at : ℕ) → Tells o (Unreadable at) → unreadable at ≡ o
-is_unreadable (says a ss) at w = let z = w.number in absurd (omega arith)
-is_unreadable (unreadable k) at w = ap unreadable w.line
-is_unreadable too_long at w = let z = w.number in absurd (omega arith)
+-- a refused text: what was read, and so what is printed
+pub refused_as : TextRefusal → Reading
+refused_as (Unreadable line) = unreadable line
+refused_as TooLong = too_long
 
-pub is_too_long : (o : Reading) → Tells o TooLong → too_long ≡ o
-is_too_long (says a ss) w = let z = w.number in absurd (omega arith)
-is_too_long (unreadable k) w = let z = w.number in absurd (omega arith)
-is_too_long too_long w = refl
+pub is_refused : (o : Reading) (e : TextRefusal) → Tells o (Err e) → refused_as e ≡ o
+unfolding refused_as
+is_refused (says a ss) (Unreadable at) w = let z = w.number in absurd (omega arith)
+is_refused (says a ss) TooLong w = let z = w.number in absurd (omega arith)
+is_refused (unreadable k) (Unreadable at) w = ap unreadable w.line
+is_refused (unreadable k) TooLong w = let z = w.number in absurd (omega arith)
+is_refused too_long (Unreadable at) w = let z = w.number in absurd (omega arith)
+is_refused too_long TooLong w = refl
+
+pub refused_prints : (room : ℕ) (e : TextRefusal) → refused_line (refusal_number e) (refusal_line e) ≡ results_of room (refused_as e)
+unfolding refused_as
+refused_prints room (Unreadable line) = refl
+refused_prints room TooLong = refl
+
+pub refused_keeps : (t : List ℕ) (e : TextRefusal) → t ≡ record_left t (refused_as e)
+unfolding refused_as
+refused_keeps t (Unreadable line) = refl
+refused_keeps t TooLong = refl
 
 -- every step that was read has seven numbers
 none_long : AllLong step_width []
@@ -95,26 +112,26 @@ read_long room text = by (leb (length text) most_bytes && leb (most_steps * step
     by false = none_long
 
 -- the steps in the step table are those that were read
-module _ (text t left : List ℕ) (answers count : ℕ) (w : Leaves (reading text) t (Says answers count) left) where
+module _ (text t left : List ℕ) (said : Said) (w : Leaves (reading text) t (Ok said) left) where
   abbrev ss : List Step
   ss = steps_in (reading text)
 
-  counted : count ≡ length ss
-  counted = (is_says (reading text) answers count w.tells).1
+  counted : said.count ≡ length ss
+  counted = (is_says (reading text) said w.tells).1
 
-  long : length (flat ss) ≡ count * step_width
+  long : length (flat ss) ≡ said.count * step_width
   long = flat_length step_width ss (read_long (most_steps * step_width) text) ∙ ap (λ (k : ℕ). k * step_width) (sym counted)
 
-  taken : take (count * step_width) left ≡ flat ss
-  taken = ap (take (count * step_width)) w.table ∙ take_at (flat ss) (drop (length (flat ss)) t) (count * step_width) long
+  taken : take (said.count * step_width) left ≡ flat ss
+  taken = ap (take (said.count * step_width)) w.table ∙ take_at (flat ss) (drop (length (flat ss)) t) (said.count * step_width) long
 
-  as_many : step_count (take (count * step_width) left) ≡ length ss
+  as_many : step_count (take (said.count * step_width) left) ≡ length ss
   as_many = ap (λ (xs : List ℕ). length xs / step_width) taken ∙ omega (arith, long, counted)
 
-  pub few_steps : step_count (take (count * step_width) left) ≤ most_steps
+  pub few_steps : step_count (take (said.count * step_width) left) ≤ most_steps
   few_steps = omega (arith, as_many, counted, w.tells.few)
 
-  pub steps_read : steps_of (take (count * step_width) left) ≡ ss
+  pub steps_read : steps_of (take (said.count * step_width) left) ≡ ss
   steps_read =
       ap₂ (cut step_width) as_many (taken ∙ sym (append-nil (flat ss)))
       ∙ cut_flat step_width ss [] (read_long (most_steps * step_width) text)
@@ -136,16 +153,16 @@ shows {text} {t} {out} {table} {left} {r} {most} o e put kept h =
     }
 
 -- a text that was read and played
-pub shows_played : {text t out table left steps : List ℕ} {r answers count : ℕ} → length t ≡ most_room * message_width → most_printed ≤ length out
-    → Leaves (reading text) blank (Says answers count) steps
-    → Put out 0 (results answers (room_of t) (steps_of (take (count * step_width) steps))) most_printed left r
-    → table ≡ over (flat (played answers (room_of t) [] (steps_of (take (count * step_width) steps)))) t
+pub shows_played : {text t out table left steps : List ℕ} {r : ℕ} {said : Said} → length t ≡ most_room * message_width → most_printed ≤ length out
+    → Leaves (reading text) blank (Ok said) steps
+    → Put out 0 (results said.answers (room_of t) (steps_of (take (said.count * step_width) steps))) most_printed left r
+    → table ≡ over (flat (played said.answers (room_of t) [] (steps_of (take (said.count * step_width) steps)))) t
     → Shows text t out r table left
-shows_played {text} {t} {out} {table} {left} {steps} {r} {answers} {count} l fits w put kept =
+shows_played {text} {t} {out} {table} {left} {steps} {r} {said} l fits w put kept =
     let room : room_of t ≡ most_room = omega arith in
     let ss = steps_in (reading text) in
-    let read : steps_of (take (count * step_width) steps) ≡ ss = steps_read text blank steps answers count w in
-    shows (says answers ss) (is_says (reading text) answers count w.tells).0
-    (subst (λ (bs : Text). Put out 0 bs most_printed left r) (ap₂ (results answers) room read) put)
-    (kept ∙ ap₂ (λ (k : ℕ) (zs : List Step). over (flat (played answers k [] zs)) t) room read)
+    let read : steps_of (take (said.count * step_width) steps) ≡ ss = steps_read text blank steps said w in
+    shows (says said.answers ss) (is_says (reading text) said w.tells).0
+    (subst (λ (bs : Text). Put out 0 bs most_printed left r) (ap₂ (results said.answers) room read) put)
+    (kept ∙ ap₂ (λ (k : ℕ) (zs : List Step). over (flat (played said.answers k [] zs)) t) room read)
     fits

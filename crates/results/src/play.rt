@@ -12,8 +12,9 @@ use messages::layout::MESSAGE_WIDTH;
 use printing::printed::{REPLY_WIDEST, STEP_WIDEST, put_refused_line};
 use record::table::MOST_ROOM;
 use rows::put_results;
-use runs::run::{MOST_STEPS, STEP_WIDTH, play};
-use steptext::read::{TextRead, read_text};
+use rules::steps::{MOST_STEPS, STEP_WIDTH};
+use runs::run::play;
+use steptext::read::read_text;
 
 // The numbers of a record with the most room, and the most bytes that its results take.
 pub const MOST_NUMBERS: usize = MOST_ROOM * MESSAGE_WIDTH;
@@ -40,11 +41,10 @@ pub fn play_text(
 {
     let mut steps = [0u16; MOST_STEPS * STEP_WIDTH];
     match read_text(text, &mut steps) {
-        TextRead::Says(answers, count) => {
-            let end = count * STEP_WIDTH;
-            play_steps(out, table, answers, &steps[..end])
+        Ok(said) => {
+            let end = said.count * STEP_WIDTH;
+            play_steps(out, table, said.answers, &steps[..end])
         }
-        TextRead::Unreadable(line) => put_refused_line(out, 10, line as u16),
-        TextRead::TooLong => put_refused_line(out, 11, 0),
+        Err(refusal) => put_refused_line(out, u8::from(refusal) as u16, refusal.line() as u16),
     }
 }

@@ -5,82 +5,69 @@ ghost use Rattle.std.specs.Prelude.{◌++◌, ◌≡◌, ◌*◌, ◌+◌, ◌<�
 ghost use Rattle.messages.specs.Layout.{message_width};
 ghost use Rattle.record.specs.Table.{messages, most_room};
 ghost use Rattle.printing.specs.Put.{Put};
-ghost use Rattle.rows.specs.Rows.{count_by, line_after, most_printed, place_by, reply_lines, step_lines};
+ghost use Rattle.rows.specs.Rows.{count_by, line_after, most_printed, reply_lines, step_lines};
 ghost use Rattle.printing.specs.Widths.{reply_widest, step_widest};
 ghost use Rattle.rules.specs.Run.{most_steps};
 
 use messages::layout::REPLY_SIGNED;
 use messages::parts::Place;
 use messages::signed::reply_signed_at;
-use printing::printed::{put_reply_line, put_step_line};
+use printing::put::Printed;
 use record::table::message;
 use reports::report::{is_house_reply, report_on};
 
-// A step's place, and how many messages there are after it.
-#[derive(Clone, Copy)]
-struct Placed {
-    place: u16,
-    n: u16,
-}
-
-fn place_of(n: u16, number: u8) -> Placed
+// How many messages there are after a step of this number, with n before it. The number is a verdict byte, as hosts in C get it: 0 is accepted.
+fn count_after(n: u16, number: u8) -> u16
     requires { n < 65535 }
-    ensures { (result.place ≡ place_by n number) × (result.n ≡ count_by n number) }
+    ensures { result ≡ count_by n number }
 {
-    if number != 0 {
-        return Placed { place: 0, n };
-    }
-    let place = n + 1;
-    Placed { place, n: place }
+    if number == 0 { n + 1 } else { n }
 }
 
 // By the number of each step.
-fn put_steps(out: &mut [u8], numbers: &[u8]) -> usize
-    requires { (length numbers.now ≤ most_steps) × (length numbers.now * step_widest ≤ length out.old) }
-    ensures { Put out.old 0 (step_lines numbers.now) (length numbers.now * step_widest) out.new result }
+fn put_steps(printed: &mut Printed<'_>, numbers: &[u8])
+    requires few { length numbers.now ≤ most_steps }
+    requires room { printed.old.at + length numbers.now * step_widest ≤ length printed.old.out.now }
+    ensures same_table { printed.new.out.ghost_name ≡ printed.old.out.ghost_name }
+    ensures put { Put printed.old.out.now printed.old.at (step_lines numbers.now) (length numbers.now * step_widest) printed.new.out.now printed.new.at }
 {
-    let mut at = 0;
     let mut n = 0;
-    let mut i = 0;
-    while i < numbers.len() {
-        let number = numbers[i];
-        let step = place_of(n, number);
-        at = put_step_line(out, at, (i + 1) as u16, number as u16, step.place);
-        n = step.n;
-        i += 1;
+    for (i, &number) in numbers.iter().enumerate() {
+        n = count_after(n, number);
+        let place = if number == 0 { n } else { 0 };
+        printed.step_line((i + 1) as u16, number as u16, place);
     }
-    at
 }
 
 // The line of the message after the first p, if it is a house reply.
-fn put_reply(out: &mut [u8], at: usize, t: &[u16], p: usize) -> usize
-    requires { (at + reply_widest ≤ length out.old) × ((p + 1) * message_width ≤ length t.now) × (p < most_room) }
-    ensures { Put out.old at (line_after t.now p) reply_widest out.new result }
+fn put_reply(printed: &mut Printed<'_>, t: &[u16], p: usize)
+    requires named { ((p + 1) * message_width ≤ length t.now) × (p < most_room) }
+    requires room { printed.old.at + reply_widest ≤ length printed.old.out.now }
+    ensures same_table { printed.new.out.ghost_name ≡ printed.old.out.ghost_name }
+    ensures put { Put printed.old.out.now printed.old.at (line_after t.now p) reply_widest printed.new.out.now printed.new.at }
 {
     let place = p + 1;
     let reply = message(t, Place(place));
     if !is_house_reply(reply) {
-        return at;
+        return;
     }
     let signed = reply_signed_at(reply, REPLY_SIGNED);
-    let report = report_on(t, p, signed.mark);
+    let report = u8::from(report_on(t, p, signed.mark));
     let seller = signed.mark.seller.0;
     let buyer = signed.mark.buyer.0;
-    put_reply_line(out, at, place as u16, seller, buyer, report as u16)
+    printed.reply_line(place as u16, seller, buyer, report as u16);
 }
 
 // Of the first n messages of a table.
-fn put_replies(out: &mut [u8], from: usize, t: &[u16], n: usize) -> usize
-    requires { (from + n * reply_widest ≤ length out.old) × (n * message_width ≤ length t.now) × (n ≤ most_room) }
-    ensures { Put out.old from (reply_lines (messages n t.now)) (n * reply_widest) out.new result }
+fn put_replies(printed: &mut Printed<'_>, t: &[u16], n: usize)
+    requires there { (n * message_width ≤ length t.now) × (n ≤ most_room) }
+    requires room { printed.old.at + n * reply_widest ≤ length printed.old.out.now }
+    ensures same_table { printed.new.out.ghost_name ≡ printed.old.out.ghost_name }
+    ensures put { Put printed.old.out.now printed.old.at (reply_lines (messages n t.now)) (n * reply_widest) printed.new.out.now printed.new.at }
 {
-    let mut at = from;
-    let mut p = 0;
-    while p < n {
-        at = put_reply(out, at, t, p);
-        p += 1;
+    for p in 0..n {
+        put_reply(printed, t, p);
     }
-    at
 }
 
 // After a run that left n messages in a table, by the number of each step.
@@ -88,6 +75,8 @@ pub fn put_results(out: &mut [u8], numbers: &[u8], t: &[u16], n: usize) -> usize
     requires { (most_printed ≤ length out.old) × (length numbers.now ≤ most_steps) × (n * message_width ≤ length t.now) × (n ≤ most_room) }
     ensures { Put out.old 0 (step_lines numbers.now ++ reply_lines (messages n t.now)) most_printed out.new result }
 {
-    let at = put_steps(out, numbers);
-    put_replies(out, at, t, n)
+    let mut printed = Printed { out, at: 0 };
+    put_steps(&mut printed, numbers);
+    put_replies(&mut printed, t, n);
+    printed.at
 }

@@ -10,7 +10,8 @@ use Rattle.messages.specs.Parts.{Message}
 use Rattle.record.specs.Table.{Record}
 use Rattle.messages.specs.Tests.{all}
 use Rattle.rules.proofs.Gates.{Open, all_open, passes}
-use Rattle.rules.specs.Codes.{Argument, Deed, Row, known, row_of}
+use Rattle.rules.specs.Codes.{Deed, Row, known, row_of}
+use Rattle.rules.specs.declared.codes.Argument.{Argument}
 use Rattle.rules.specs.Honest.{holds}
 use Rattle.rules.specs.Items.{each_argument, holding, in_range, placed}
 use Rattle.rules.specs.Step.{Outcome, Step, accepted, added, arguments_of, claims, code_of, gates, judge, judge_row, refused}

@@ -10,7 +10,9 @@ use borrow.Author.Tests.{eqb-false, eqb-true}
 use lib.Dec.{eqb}
 use lib.ListN.{length}
 use Rattle.messages.proofs.Chain.{bounds}
-use Rattle.messages.specs.Layout.{AuthRequest, AuthResponse, Initiate, Invoice, Kind, Payment, an_auth_request, body, destination, laid, request_buyer_signed, request_signed, request_slip, source}
+use Rattle.messages.specs.Layout.{an_auth_request, body, destination, laid, request_buyer_signed, request_signed, request_slip, source}
+use Rattle.messages.specs.declared.kind.Kind.{Kind}
+use Rattle.messages.specs.declared.kind.Kind.TheVariants.{AuthRequest, AuthResponse, Initiate, Invoice, Payment}
 use Rattle.messages.specs.Parts.{Message, buyer_at, gateway_at, hashed_numbers, mark_at, mark_numbers, mark_width, owner_of, seller_at, slip_at, slip_numbers, slip_width}
 use Rattle.messages.specs.Signed.{buyer_signed_at, buyer_signed_numbers, invoice_signed_numbers, request_signed_at, request_signed_numbers}
 use Rattle.record.specs.Table.{Record, message_at}
@@ -26,7 +28,8 @@ use Rattle.rules.proofs.Laid.{relaid}
 use Rattle.rules.proofs.Reached.{history}
 use Rattle.rules.proofs.Vouched.{AllSound, BuyerVouched, SellerVouched, reached_sound, sound_as}
 use Rattle.rules.specs.Agreed.{Agreed, BothOutside, ◌∈◌}
-use Rattle.rules.specs.Codes.{Argument, Deed, asks, forges, invoices, pays, replies, starts}
+use Rattle.rules.specs.Codes.{Deed, asks, forges, invoices, pays, replies, starts}
+use Rattle.rules.specs.declared.codes.Argument.{Argument}
 use Rattle.rules.specs.Honest.{holds, house, rebuilt, reply_claims}
 use Rattle.rules.specs.Items.{is_kind}
 use Rattle.rules.specs.Report.{earlier, house_reply, its_request, its_slip, reply_mark}

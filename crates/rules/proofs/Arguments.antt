@@ -7,58 +7,60 @@ use Prim.Native.Nat.{ℕ}
 use borrow.Author.Tests.{eqb-true}
 use lib.Dec.{eqb}
 use Rattle.messages.proofs.Chain.{left_of, right_of}
-use Rattle.messages.specs.Layout.{AuthRequest, AuthResponse, Initiate, Invoice, Payment}
+use Rattle.messages.specs.declared.kind.Kind.TheVariants.{AuthRequest, AuthResponse, Initiate, Invoice, Payment}
 use Rattle.rules.proofs.Tests.{either, other, picked}
-use Rattle.rules.specs.Codes.{Argument, Item, letter}
+use Rattle.rules.specs.Codes.{letter}
+use Rattle.rules.specs.declared.codes.Argument.{Argument}
+use Rattle.rules.specs.declared.codes.Item.{Item}
 use Rattle.rules.specs.Forged.{given, gives}
 use Rattle.rules.specs.Items.{each_argument}
 
 -- an argument is known by its letter
 abbrev every_argument : List Argument
 every_argument =
-    Argument.unused
+    Argument.Unused
     ∷ Argument.B
     ∷ Argument.S
-    ∷ Argument.c
-    ∷ Argument.a
-    ∷ Argument.the Initiate
-    ∷ Argument.the Invoice
-    ∷ Argument.the Payment
-    ∷ Argument.the AuthRequest
-    ∷ Argument.the AuthResponse
-    ∷ Argument.at Item.h
-    ∷ Argument.at Item.m
-    ∷ Argument.at Item.e
-    ∷ Argument.at Item.r
-    ∷ Argument.at Item.v
-    ∷ Argument.at Item.q
-    ∷ Argument.at Item.p
-    ∷ Argument.at Item.g
+    ∷ Argument.C
+    ∷ Argument.A
+    ∷ Argument.The Initiate
+    ∷ Argument.The Invoice
+    ∷ Argument.The Payment
+    ∷ Argument.The AuthRequest
+    ∷ Argument.The AuthResponse
+    ∷ Argument.At Item.H
+    ∷ Argument.At Item.M
+    ∷ Argument.At Item.E
+    ∷ Argument.At Item.R
+    ∷ Argument.At Item.V
+    ∷ Argument.At Item.Q
+    ∷ Argument.At Item.P
+    ∷ Argument.At Item.G
     ∷ []
 
 abbrev lettered : List Argument → ℕ → Argument
-lettered [] n = Argument.unused
+lettered [] n = Argument.Unused
 lettered (k ∷ ks) n = cond (eqb n (letter k)) k (lettered ks n)
 
 by_letter : (k : Argument) → lettered every_argument (letter k) ≡ k
-by_letter Argument.unused = refl
+by_letter Argument.Unused = refl
 by_letter Argument.B = refl
 by_letter Argument.S = refl
-by_letter Argument.c = refl
-by_letter Argument.a = refl
-by_letter (Argument.the Initiate) = refl
-by_letter (Argument.the Invoice) = refl
-by_letter (Argument.the Payment) = refl
-by_letter (Argument.the AuthRequest) = refl
-by_letter (Argument.the AuthResponse) = refl
-by_letter (Argument.at Item.h) = refl
-by_letter (Argument.at Item.m) = refl
-by_letter (Argument.at Item.e) = refl
-by_letter (Argument.at Item.r) = refl
-by_letter (Argument.at Item.v) = refl
-by_letter (Argument.at Item.q) = refl
-by_letter (Argument.at Item.p) = refl
-by_letter (Argument.at Item.g) = refl
+by_letter Argument.C = refl
+by_letter Argument.A = refl
+by_letter (Argument.The Initiate) = refl
+by_letter (Argument.The Invoice) = refl
+by_letter (Argument.The Payment) = refl
+by_letter (Argument.The AuthRequest) = refl
+by_letter (Argument.The AuthResponse) = refl
+by_letter (Argument.At Item.H) = refl
+by_letter (Argument.At Item.M) = refl
+by_letter (Argument.At Item.E) = refl
+by_letter (Argument.At Item.R) = refl
+by_letter (Argument.At Item.V) = refl
+by_letter (Argument.At Item.Q) = refl
+by_letter (Argument.At Item.P) = refl
+by_letter (Argument.At Item.G) = refl
 
 same_letter : (j k : Argument) → eqb (letter j) (letter k) ≡ true → j ≡ k
 same_letter j k e =

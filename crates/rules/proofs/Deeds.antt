@@ -8,7 +8,8 @@ use lib.ListN.{length}
 use native.Mathlib.Omega.{arith}
 use Rattle.lawful.specs.Lawful.{gateways, within}
 use Rattle.messages.proofs.Chain.{bounds, left_of, right_of}
-use Rattle.messages.specs.Layout.{AuthRequest, AuthResponse, Initiate, Invoice, Kind, Payment}
+use Rattle.messages.specs.declared.kind.Kind.{Kind}
+use Rattle.messages.specs.declared.kind.Kind.TheVariants.{AuthRequest, AuthResponse, Initiate, Invoice, Payment}
 use Rattle.messages.specs.Parts.{Message}
 use Rattle.messages.specs.declared.parts.Gateway.{Gateway}
 use Rattle.record.specs.Table.{Record, message_at}
@@ -17,7 +18,9 @@ use Rattle.rules.proofs.Accepted.{Passed, is_accepted}
 use Rattle.rules.proofs.Arguments.{passed_given}
 use Rattle.rules.proofs.Tests.{all_member, member_at, picked}
 use Rattle.rules.specs.Agreed.{◌∈◌}
-use Rattle.rules.specs.Codes.{Argument, Deed, Item, Row, asks, forges, invoices, known, pays, replies, row_of, row, rows, starts}
+use Rattle.rules.specs.Codes.{Deed, Row, asks, forges, invoices, known, pays, replies, row_of, row, rows, starts}
+use Rattle.rules.specs.declared.codes.Argument.{Argument}
+use Rattle.rules.specs.declared.codes.Item.{Item}
 use Rattle.rules.specs.Forged.{copied, given, gives, item_or}
 use Rattle.rules.specs.Items.{holding, in_range, is_kind, placed, yields}
 use Rattle.rules.specs.Step.{Step, accepted, added, arguments_of, code_of, judge}
@@ -26,35 +29,35 @@ use Rattle.rules.specs.Step.{Step, accepted, added, arguments_of, code_of, judge
 -- message a response code, the signatures that are not built, and whatever its parts are built from
 module _ (ks : List Argument) where
   abbrev has : Item → Bool
-  has i = gives (Argument.at i) ks
+  has i = gives (Argument.At i) ks
 
   abbrev pub hashed_built : Bool
-  hashed_built = has Item.h || has Item.r
+  hashed_built = has Item.H || has Item.R
 
   abbrev pub mark_built : Bool
-  mark_built = has Item.m || hashed_built
+  mark_built = has Item.M || hashed_built
 
   abbrev pub slip_built : Bool
-  slip_built = has Item.e || (mark_built && has Item.r)
+  slip_built = has Item.E || (mark_built && has Item.R)
 
   abbrev pub complete : Deed → Bool
   complete starts = true
-  complete invoices = gives (Argument.the Initiate) ks
-  complete (pays key) = within gateways key.0 && (gives (Argument.the Initiate) ks && gives (Argument.the Invoice) ks)
-  complete asks = gives (Argument.the Invoice) ks && gives (Argument.the Payment) ks
-  complete replies = gives (Argument.the AuthRequest) ks
+  complete invoices = gives (Argument.The Initiate) ks
+  complete (pays key) = within gateways key.0 && (gives (Argument.The Initiate) ks && gives (Argument.The Invoice) ks)
+  complete asks = gives (Argument.The Invoice) ks && gives (Argument.The Payment) ks
+  complete replies = gives (Argument.The AuthRequest) ks
   complete (forges Initiate) = hashed_built
   complete (forges Invoice) = mark_built
-  complete (forges Payment) = slip_built && (has Item.p || mark_built)
+  complete (forges Payment) = slip_built && (has Item.P || mark_built)
   complete (forges AuthRequest) = slip_built && mark_built
-  complete (forges AuthResponse) = gives Argument.c ks && (has Item.g || mark_built)
+  complete (forges AuthResponse) = gives Argument.C ks && (has Item.G || mark_built)
 
-pub two_named : (ks : List Argument) (a b : Kind) → (gives (Argument.the a) ks && gives (Argument.the b) ks) ≡ true
-    → (gives (Argument.the a) ks ≡ true) × (gives (Argument.the b) ks ≡ true)
-two_named ks a b e = (left_of _ _ e, right_of (gives (Argument.the a) ks) _ e)
+pub two_named : (ks : List Argument) (a b : Kind) → (gives (Argument.The a) ks && gives (Argument.The b) ks) ≡ true
+    → (gives (Argument.The a) ks ≡ true) × (gives (Argument.The b) ks ≡ true)
+two_named ks a b e = (left_of _ _ e, right_of (gives (Argument.The a) ks) _ e)
 
 pub paying : (key : Gateway) (ks : List Argument) → complete ks (pays key) ≡ true
-    → (gives (Argument.the Initiate) ks ≡ true) × (gives (Argument.the Invoice) ks ≡ true)
+    → (gives (Argument.The Initiate) ks ≡ true) × (gives (Argument.The Invoice) ks ≡ true)
 paying key ks e = two_named ks Initiate Invoice (right_of (within gateways key.0) _ e)
 
 abbrev complete_row : Row → Bool
@@ -100,19 +103,19 @@ module _ {room : ℕ} {R : Record} {d : Deed} {ks : List Argument} {xs : List �
   )
 
   -- an honest step names a message of the kind that its row says
-  pub named : (k : Kind) → gives (Argument.the k) ks ≡ true
-      → (message_at R (record { 0 = given (Argument.the k) ks xs }) ∈ R)
-      × (is_kind k (message_at R (record { 0 = given (Argument.the k) ks xs })) ≡ true)
-  named k = at_place (Argument.the k) (λ n x. refl)
+  pub named : (k : Kind) → gives (Argument.The k) ks ≡ true
+      → (message_at R (record { 0 = given (Argument.The k) ks xs }) ∈ R)
+      × (is_kind k (message_at R (record { 0 = given (Argument.The k) ks xs })) ≡ true)
+  named k = at_place (Argument.The k) (λ n x. refl)
 
   -- the outsider copies an item from a message that yields it
-  copied_from : (i : Item) → gives (Argument.at i) ks ≡ true → (copied R ks xs i ∈ R) × (yields i (copied R ks xs i) ≡ true)
-  copied_from i = at_place (Argument.at i) (λ n x. refl)
+  copied_from : (i : Item) → gives (Argument.At i) ks ≡ true → (copied R ks xs i ∈ R) × (yields i (copied R ks xs i) ≡ true)
+  copied_from i = at_place (Argument.At i) (λ n x. refl)
 
   -- what holds of the item in every message that yields it, and of what is built in its place, holds of the item
   pub item_of : {A : Type 0} (P : A → Type 0) (i : Item) (read : Message → A) (built : A)
-      → ((w : Message) → w ∈ R → yields i w ≡ true → P (read w)) → (gives (Argument.at i) ks ≡ false → P built)
+      → ((w : Message) → w ∈ R → yields i w ≡ true → P (read w)) → (gives (Argument.At i) ks ≡ false → P built)
       → P (item_or R ks xs i read built)
   item_of P i read built reads builds =
       let w = copied R ks xs i in
-      picked P (gives (Argument.at i) ks) (read w) built (λ g. let c = copied_from i g in reads w c.0 c.1) builds
+      picked P (gives (Argument.At i) ks) (read w) built (λ g. let c = copied_from i g in reads w c.0 c.1) builds

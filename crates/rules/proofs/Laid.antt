@@ -6,7 +6,9 @@ use mathlib.Core.Path.{◌≡◌, ◌∙◌, refl, sym, ap}
 use Prim.Native.Nat.{ℕ, ◌-◌}
 use borrow.Author.Tests.{eqb-true}
 use lib.ListN.{get_or, length}
-use Rattle.messages.specs.Layout.{AuthRequest, AuthResponse, Initiate, Invoice, Kind, Payment, a_payment, an_auth_request, an_auth_response, an_initiate, an_invoice, body, destination, invoice_signed, kind_number, kind_of, maker, message_width, payment_signed, reply_signed, request_buyer_signed, request_signed, request_slip, source}
+use Rattle.messages.specs.Layout.{a_payment, an_auth_request, an_auth_response, an_initiate, an_invoice, body, destination, invoice_signed, kind_number, kind_of, maker, message_width, payment_signed, reply_signed, request_buyer_signed, request_signed, request_slip, source}
+use Rattle.messages.specs.declared.kind.Kind.{Kind}
+use Rattle.messages.specs.declared.kind.Kind.TheVariants.{AuthRequest, AuthResponse, Initiate, Invoice, Payment}
 use Rattle.messages.specs.Parts.{Message, buyer_at, gateway_at, hashed_at, mark_at, seller_at, slip_at}
 use Rattle.messages.specs.Signed.{buyer_signed_at, invoice_signed_at, reply_signed_at, request_signed_at}
 use Rattle.rules.specs.Items.{is_kind}

@@ -12,7 +12,9 @@ use native.Mathlib.Omega.{arith}
 use Rattle.messages.proofs.Chain.{inside, left_of, right_of}
 use Rattle.record.proofs.Cut.{length_cut}
 use Rattle.lawful.specs.Lawful.{Range, accounts, buyers, codes, draws, fits, gateways, lawful, mark_ranges, sellers, slip_ranges, within}
-use Rattle.messages.specs.Layout.{AuthRequest, AuthResponse, Initiate, Invoice, Kind, Payment, body, destination, invoice_signed, message_width, payment_signed, reply_signed, request_buyer_signed, request_signed, request_slip, source}
+use Rattle.messages.specs.Layout.{body, destination, invoice_signed, message_width, payment_signed, reply_signed, request_buyer_signed, request_signed, request_slip, source}
+use Rattle.messages.specs.declared.kind.Kind.{Kind}
+use Rattle.messages.specs.declared.kind.Kind.TheVariants.{AuthRequest, AuthResponse, Initiate, Invoice, Payment}
 use Rattle.messages.specs.Parts.{Message, account_of, buyer_at, drawn_at, drawn_numbers, drawn_width, hashed_at, hashed_width, mark_at, mark_numbers, mark_width, seller_at, slip_at, slip_numbers, slip_width}
 use Rattle.messages.specs.Signed.{buyer_signed_at, buyer_signed_width, invoice_signed_width, reply_signed_width, request_signed_width}
 use Rattle.record.specs.Table.{Record, message_at, messages, most_room, room_of, whole}
@@ -31,7 +33,9 @@ use Rattle.rules.proofs.Ranges.{BuyerSigned✓, Hashed✓, InvoiceSigned✓, Mar
 use Rattle.rules.proofs.Reached.{kept_reached}
 use Rattle.rules.proofs.Tests.{all_append, all_member, both, either, other, picked}
 use Rattle.rules.specs.Agreed.{◌∈◌}
-use Rattle.rules.specs.Codes.{Argument, Deed, Item, asks, forges, invoices, pays, replies, starts}
+use Rattle.rules.specs.Codes.{Deed, asks, forges, invoices, pays, replies, starts}
+use Rattle.rules.specs.declared.codes.Argument.{Argument}
+use Rattle.rules.specs.declared.codes.Item.{Item}
 use Rattle.rules.specs.Forged.{account, buyer, buyer_signature, code, drawn, given, gives, hashed, invoice_signature, item_or, mark, no_buyer, no_seller, reply_signature, request_signature, seller, slip}
 use Rattle.rules.specs.Honest.{code_for, false_gateway, good, house, mark_for, order_mark, slip_under}
 use Rattle.rules.specs.Items.{buyer_signed_in, drawn_in, has_slip, hashed_in, holding, in_range, invoice_signed_in, is_kind, mark_in, placed, readable, reply_signed_in, request_signed_in, slip_in, yields}
@@ -91,7 +95,7 @@ module _ (w : Message) (l : lawful w ≡ true) where
   readable_slip : readable w ≡ true → Slip✓ (slip_in w)
   readable_slip e = slip_in_lem (left_of _ _ e)
 
-  drawn_in_lem : yields Item.r w ≡ true → Drawn✓ (drawn_in w)
+  drawn_in_lem : yields Item.R w ≡ true → Drawn✓ (drawn_in w)
   drawn_in_lem e =
       picked Drawn✓ (is_kind Initiate w) (drawn_at w body) (slip_in w).drawn (λ h. lawful_part Initiate w l h body drawn_width)
       (λ n. let r : readable w ≡ true = rw n at e in slip_drawn (slip_in w) (readable_slip r))
@@ -103,7 +107,7 @@ module _ {room : ℕ} {R : Record} {d : Deed} {ks : List Argument} {xs : List �
 
   -- an item is copied from a lawful message that yields it, or built
   item✓ : {A : Type 0} (P : A → Type 0) (i : Item) (read : Message → A) (built : A)
-      → ((w : Message) → lawful w ≡ true → yields i w ≡ true → P (read w)) → (gives (Argument.at i) ks ≡ false → P built)
+      → ((w : Message) → lawful w ≡ true → yields i w ≡ true → P (read w)) → (gives (Argument.At i) ks ≡ false → P built)
       → P (item_or R ks xs i read built)
   item✓ P i read built reads builds = item_of t P i read built (λ w m y. reads w (lawful_at w m) y) builds
 
@@ -125,19 +129,19 @@ module _ {room : ℕ} {R : Record} {d : Deed} {ks : List Argument} {xs : List �
   account✓ : Account✓ (account R ks xs)
   account✓ =
       picked Account✓ (eqb n 0) (record { 0 = 0 }) (slip_in w).account (λ e. refl)
-      (λ e. slip_account (slip_in w) (by_cases e (gives Argument.a ks) refl))
+      (λ e. slip_account (slip_in w) (by_cases e (gives Argument.A ks) refl))
     where
       n : ℕ
-      n = given Argument.a ks xs
+      n = given Argument.A ks xs
 
       w : Message
       w = message_at R (record { 0 = n })
 
-      by_cases : eqb n 0 ≡ false → (b : Bool) → gives Argument.a ks ≡ b → Slip✓ (slip_in w)
-      by_cases e false g = absurd (eqb-false n 0 e (not_given Argument.a ks xs g))
+      by_cases : eqb n 0 ≡ false → (b : Bool) → gives Argument.A ks ≡ b → Slip✓ (slip_in w)
+      by_cases e false g = absurd (eqb-false n 0 e (not_given Argument.A ks xs g))
       by_cases e true g =
-          let most : n ≤ length R = leb-true n (length R) (passed_given Argument.a (placed (length R)) ks xs t.passed.places g) in
-          let held = passed_given Argument.a (holding R) ks xs t.passed.held g in
+          let most : n ≤ length R = leb-true n (length R) (passed_given Argument.A (placed (length R)) ks xs t.passed.places g) in
+          let held = passed_given Argument.A (holding R) ks xs t.passed.held g in
           let least : 1 ≤ n = omega (arith, eqb-false n 0 e) in
           readable_slip w (lawful_at w (member_place R n (inside least most)))
           (other (eqb n 0) (readable w) held e)
@@ -147,59 +151,59 @@ module _ {room : ℕ} {R : Record} {d : Deed} {ks : List Argument} {xs : List �
       picked (λ (b : Buyer). within buyers b.0 ≡ true) (gives Argument.B ks) (record { 0 = given Argument.B ks xs })
       (record { 0 = (account R ks xs).0 }) (λ g. named_buyer✓) (λ g. account✓)
 
-  drawn✓ : gives (Argument.at Item.r) ks ≡ true → Drawn✓ (drawn R ks xs)
-  drawn✓ g = item✓ Drawn✓ Item.r drawn_in (record { drawer = no_buyer; draw = 0 }) drawn_in_lem (λ n. absurd (true≢false (sym g ∙ n)))
+  drawn✓ : gives (Argument.At Item.R) ks ≡ true → Drawn✓ (drawn R ks xs)
+  drawn✓ g = item✓ Drawn✓ Item.R drawn_in (record { drawer = no_buyer; draw = 0 }) drawn_in_lem (λ n. absurd (true≢false (sym g ∙ n)))
 
   hashed✓ : hashed_built ks ≡ true → Hashed✓ (hashed R ks xs)
   hashed✓ e =
-      item✓ Hashed✓ Item.h hashed_in (record { drawn = drawn R ks xs; account = account R ks xs })
+      item✓ Hashed✓ Item.H hashed_in (record { drawn = drawn R ks xs; account = account R ks xs })
       (λ w l y. lawful_part Initiate w l y body hashed_width)
       (λ n.
-      hashed_of (drawn R ks xs) (account R ks xs) (drawn✓ (other (gives (Argument.at Item.h) ks) (gives (Argument.at Item.r) ks) e n))
+      hashed_of (drawn R ks xs) (account R ks xs) (drawn✓ (other (gives (Argument.At Item.H) ks) (gives (Argument.At Item.R) ks) e n))
       account✓)
 
   mark✓ : mark_built ks ≡ true → Mark✓ (mark R ks xs)
   mark✓ e =
-      item✓ Mark✓ Item.m mark_in (record { seller = seller R ks xs; buyer = buyer R ks xs; hashed = hashed R ks xs }) mark_in_lem
-      (λ n. both seller✓ (both buyer✓ (hashed✓ (other (gives (Argument.at Item.m) ks) (hashed_built ks) e n))))
+      item✓ Mark✓ Item.M mark_in (record { seller = seller R ks xs; buyer = buyer R ks xs; hashed = hashed R ks xs }) mark_in_lem
+      (λ n. both seller✓ (both buyer✓ (hashed✓ (other (gives (Argument.At Item.M) ks) (hashed_built ks) e n))))
 
   slip✓ : slip_built ks ≡ true → Slip✓ (slip R ks xs)
   slip✓ e =
-      let has_r = gives (Argument.at Item.r) ks in
-      item✓ Slip✓ Item.e slip_in (slip_under house (mark R ks xs) (account R ks xs) (drawn R ks xs)) slip_in_lem
+      let has_r = gives (Argument.At Item.R) ks in
+      item✓ Slip✓ Item.E slip_in (slip_under house (mark R ks xs) (account R ks xs) (drawn R ks xs)) slip_in_lem
       (λ n.
-      let built = other (gives (Argument.at Item.e) ks) (mark_built ks && has_r) e n in
+      let built = other (gives (Argument.At Item.E) ks) (mark_built ks && has_r) e n in
       slip_of house (mark R ks xs) (account R ks xs) (drawn R ks xs) refl (mark✓ (left_of _ _ built)) account✓
       (drawn✓ (right_of (mark_built ks) _ built)))
 
   invoice_signed✓ : mark_built ks ≡ true → InvoiceSigned✓ (invoice_signature R ks xs)
   invoice_signed✓ e =
-      item✓ InvoiceSigned✓ Item.v invoice_signed_in (record { signer = no_seller; mark = mark R ks xs })
+      item✓ InvoiceSigned✓ Item.V invoice_signed_in (record { signer = no_seller; mark = mark R ks xs })
       (λ w l y. lawful_part Invoice w l y invoice_signed invoice_signed_width) (λ n. mark✓ e)
 
-  buyer_signed✓ : slip_built ks ≡ true → (gives (Argument.at Item.p) ks || mark_built ks) ≡ true → BuyerSigned✓ (buyer_signature R ks xs)
+  buyer_signed✓ : slip_built ks ≡ true → (gives (Argument.At Item.P) ks || mark_built ks) ≡ true → BuyerSigned✓ (buyer_signature R ks xs)
   buyer_signed✓ e f =
-      item✓ BuyerSigned✓ Item.p buyer_signed_in (record { signer = no_buyer; slip = slip R ks xs; mark = mark R ks xs }) buyer_signed_in_lem
+      item✓ BuyerSigned✓ Item.P buyer_signed_in (record { signer = no_buyer; slip = slip R ks xs; mark = mark R ks xs }) buyer_signed_in_lem
       (λ n.
-      buyer_signed_of no_buyer (slip R ks xs) (mark R ks xs) refl (slip✓ e) (mark✓ (other (gives (Argument.at Item.p) ks) (mark_built ks) f n)))
+      buyer_signed_of no_buyer (slip R ks xs) (mark R ks xs) refl (slip✓ e) (mark✓ (other (gives (Argument.At Item.P) ks) (mark_built ks) f n)))
 
   request_signed✓ : slip_built ks ≡ true → mark_built ks ≡ true → RequestSigned✓ (request_signature R ks xs)
   request_signed✓ e f =
-      item✓ RequestSigned✓ Item.q request_signed_in (record { signer = no_seller; mark = mark R ks xs; slip = slip R ks xs })
+      item✓ RequestSigned✓ Item.Q request_signed_in (record { signer = no_seller; mark = mark R ks xs; slip = slip R ks xs })
       (λ w l y. lawful_part AuthRequest w l y request_signed request_signed_width)
       (λ n. request_signed_of no_seller (mark R ks xs) (slip R ks xs) refl (mark✓ f) (slip✓ e))
 
-  reply_signed✓ : within codes (code R ks xs) ≡ true → (gives (Argument.at Item.g) ks || mark_built ks) ≡ true
+  reply_signed✓ : within codes (code R ks xs) ≡ true → (gives (Argument.At Item.G) ks || mark_built ks) ≡ true
       → ReplySigned✓ (reply_signature R ks xs)
   reply_signed✓ e f =
-      item✓ ReplySigned✓ Item.g reply_signed_in (record { signer = false_gateway; code = code R ks xs; mark = mark R ks xs })
+      item✓ ReplySigned✓ Item.G reply_signed_in (record { signer = false_gateway; code = code R ks xs; mark = mark R ks xs })
       (λ w l y. lawful_part AuthResponse w l y reply_signed reply_signed_width)
-      (λ n. both e (mark✓ (other (gives (Argument.at Item.g) ks) (mark_built ks) f n)))
+      (λ n. both e (mark✓ (other (gives (Argument.At Item.G) ks) (mark_built ks) f n)))
 
   -- a message that an honest step names
-  lawful_named : (k : Kind) → gives (Argument.the k) ks ≡ true
-      → let w = message_at R (record { 0 = given (Argument.the k) ks xs }) in (lawful w ≡ true) × (is_kind k w ≡ true)
-  lawful_named k g = let n = named t k g in (lawful_at (message_at R (record { 0 = given (Argument.the k) ks xs })) n.0, n.1)
+  lawful_named : (k : Kind) → gives (Argument.The k) ks ≡ true
+      → let w = message_at R (record { 0 = given (Argument.The k) ks xs }) in (lawful w ≡ true) × (is_kind k w ≡ true)
+  lawful_named k g = let n = named t k g in (lawful_at (message_at R (record { 0 = given (Argument.The k) ks xs })) n.0, n.1)
 
 module _ (answers room : ℕ) (small : room ≤ most_room) (R : Record) (ks : List Argument) (xs : List ℕ) (all_lawful : all lawful R ≡ true) where
   lawful_added : (d : Deed) → Taken room R d ks xs → lawful (added R ks xs answers d) ≡ true
@@ -265,7 +269,7 @@ module _ (answers room : ℕ) (small : room ≤ most_room) (R : Record) (ks : Li
       lawful_invoice no_seller (seller R ks xs) (buyer R ks xs) (mark R ks xs) (invoice_signature R ks xs) refl (seller✓ all_lawful t)
       (buyer✓ all_lawful t) (mark✓ all_lawful t t.row_is_complete) (invoice_signed✓ all_lawful t t.row_is_complete)
   lawful_added (forges Payment) t =
-      let e = left_of (slip_built ks) (gives (Argument.at Item.p) ks || mark_built ks) t.row_is_complete in
+      let e = left_of (slip_built ks) (gives (Argument.At Item.P) ks || mark_built ks) t.row_is_complete in
       lawful_payment no_buyer (buyer R ks xs) (seller R ks xs) (slip R ks xs) (buyer_signature R ks xs) refl (buyer✓ all_lawful t)
       (seller✓ all_lawful t) (slip✓ all_lawful t e) (buyer_signed✓ all_lawful t e (right_of (slip_built ks) _ t.row_is_complete))
   lawful_added (forges AuthRequest) t =
@@ -273,11 +277,11 @@ module _ (answers room : ℕ) (small : room ≤ most_room) (R : Record) (ks : Li
       let f = right_of (slip_built ks) (mark_built ks) t.row_is_complete in
       lawful_request no_seller (seller R ks xs) house (mark R ks xs) (slip R ks xs) (request_signature R ks xs) (buyer_signature R ks xs) refl
       (seller✓ all_lawful t) refl (mark✓ all_lawful t f) (slip✓ all_lawful t e) (request_signed✓ all_lawful t e f)
-      (buyer_signed✓ all_lawful t e (ap (λ (b : Bool). gives (Argument.at Item.p) ks || b) f ∙ or-true (gives (Argument.at Item.p) ks)))
+      (buyer_signed✓ all_lawful t e (ap (λ (b : Bool). gives (Argument.At Item.P) ks || b) f ∙ or-true (gives (Argument.At Item.P) ks)))
   lawful_added (forges AuthResponse) t =
-      let c = ranged t Argument.c (left_of _ _ t.row_is_complete) in
+      let c = ranged t Argument.C (left_of _ _ t.row_is_complete) in
       lawful_reply false_gateway house (seller R ks xs) (code R ks xs) (reply_signature R ks xs) refl refl (seller✓ all_lawful t) c
-      (reply_signed✓ all_lawful t c (right_of (gives Argument.c ks) _ t.row_is_complete))
+      (reply_signed✓ all_lawful t c (right_of (gives Argument.C ks) _ t.row_is_complete))
 
 -- every message of a reached record is lawful
 pub reached_lawful : ReachedLawful

@@ -8,7 +8,8 @@ use lib.Dec.{eqb}
 use lib.ListN.{get_or, length, replicate}
 use Rattle.messages.proofs.Chain.{left_of, right_of}
 use Rattle.lawful.specs.Lawful.{Range, buyer_signed_ranges, buyers, codes, fits, gateways, hashed_ranges, invoice_signed_ranges, kind_ranges, kinds, lawful, mark_ranges, reply_signed_ranges, request_signed_ranges, sellers, slip_ranges, unused, within}
-use Rattle.messages.specs.Layout.{Kind, a_payment, an_auth_request, an_auth_response, an_initiate, an_invoice, filled, kind_number, kind_of, message_width}
+use Rattle.messages.specs.Layout.{a_payment, an_auth_request, an_auth_response, an_initiate, an_invoice, filled, kind_number, kind_of, message_width}
+use Rattle.messages.specs.declared.kind.Kind.{Kind}
 use Rattle.messages.specs.Parts.{Message, hashed_numbers, mark_numbers, slip_numbers}
 use Rattle.messages.specs.Signed.{buyer_signed_numbers, invoice_signed_numbers, reply_signed_numbers, request_signed_numbers}
 use Rattle.messages.specs.declared.parts.Buyer.{Buyer}

@@ -10,7 +10,7 @@ use lib.Seq.{get_or_at, take_at}
 use native.Mathlib.Omega.{arith}
 use Rattle.messages.proofs.Chain.{bounds, inside}
 use Rattle.lawful.specs.Lawful.{buyers, sellers, within}
-use Rattle.messages.specs.Layout.{AuthRequest, Initiate, Invoice, Payment}
+use Rattle.messages.specs.declared.kind.Kind.TheVariants.{AuthRequest, Initiate, Invoice, Payment}
 use Rattle.messages.specs.Parts.{Message}
 use Rattle.record.specs.Table.{Record, message_at}
 use Rattle.messages.specs.Tests.{all, between}

@@ -9,7 +9,9 @@ use mathlib.Core.Path.{◌≡◌, ◌∙◌, refl, sym, ap, subst}
 use Prim.Native.Nat.{ℕ, ◌+◌}
 use lib.ListN.{get_or}
 use Rattle.record.proofs.Flat.{AllLong}
-use Rattle.messages.specs.Layout.{AuthRequest, AuthResponse, Initiate, Invoice, Kind, Payment, a_payment, an_initiate, an_invoice, body, destination, invoice_signed, maker, message_width, payment_signed, request_buyer_signed, request_signed, source}
+use Rattle.messages.specs.Layout.{a_payment, an_initiate, an_invoice, body, destination, invoice_signed, maker, message_width, payment_signed, request_buyer_signed, request_signed, source}
+use Rattle.messages.specs.declared.kind.Kind.{Kind}
+use Rattle.messages.specs.declared.kind.Kind.TheVariants.{AuthRequest, AuthResponse, Initiate, Invoice, Payment}
 use Rattle.messages.specs.Parts.{Message, buyer_at, hashed_at, mark_at, seller_at, slip_at, slip_width}
 use Rattle.messages.specs.Signed.{buyer_signed_at, request_signed_at}
 use Rattle.record.specs.Table.{Record, message_at}
@@ -25,7 +27,9 @@ use Rattle.rules.proofs.Laid.{full_length, one_kind, relaid}
 use Rattle.rules.proofs.Reached.{kept_reached}
 use Rattle.rules.proofs.Tests.{other, picked}
 use Rattle.rules.specs.Agreed.{◌∈◌}
-use Rattle.rules.specs.Codes.{Argument, Deed, Item, asks, forges, invoices, pays, replies, starts}
+use Rattle.rules.specs.Codes.{Deed, asks, forges, invoices, pays, replies, starts}
+use Rattle.rules.specs.declared.codes.Argument.{Argument}
+use Rattle.rules.specs.declared.codes.Item.{Item}
 use Rattle.rules.specs.Forged.{buyer_signature, given, gives, mark, no_buyer, no_seller, request_signature, slip}
 use Rattle.rules.specs.Honest.{ask_claims, invoice_claims, order_mark, pay_claims, payment_by, request_by}
 use Rattle.rules.specs.Items.{buyer_signed_in, has_slip, is_kind, request_signed_in}
@@ -132,11 +136,11 @@ sound_as R k w e h =
 module _ (answers room : ℕ) (R : Record) (ks : List Argument) (xs : List ℕ) (sound : AllSound R) where
   module _ (T : Record) (grows : (w : Message) → w ∈ R → w ∈ T) where
     -- a message that the step names
-    the_one : {d : Deed} → Taken room R d ks xs → (k : Kind) → gives (Argument.the k) ks ≡ true
-        → let w = message_at R (record { 0 = given (Argument.the k) ks xs }) in (w ∈ R) × (w ≡ relaid k w) × Vouched R k w
+    the_one : {d : Deed} → Taken room R d ks xs → (k : Kind) → gives (Argument.The k) ks ≡ true
+        → let w = message_at R (record { 0 = given (Argument.The k) ks xs }) in (w ∈ R) × (w ≡ relaid k w) × Vouched R k w
     the_one t k g =
         let n = named t k g in
-        let w = message_at R (record { 0 = given (Argument.the k) ks xs }) in
+        let w = message_at R (record { 0 = given (Argument.The k) ks xs }) in
         let e = sound_as R k w (sound w n.0) n.1 in
         (n.0, e.0, e.1)
 
@@ -245,12 +249,12 @@ module _ (answers room : ℕ) (R : Record) (ks : List Argument) (xs : List ℕ) 
 
     forged_buyer : {d : Deed} → Taken room R d ks xs → BuyerVouched T (buyer_signature R ks xs)
     forged_buyer t =
-        item_of t (BuyerVouched T) Item.p buyer_signed_in (record { signer = no_buyer; slip = slip R ks xs; mark = mark R ks xs }) copied_buyer
+        item_of t (BuyerVouched T) Item.P buyer_signed_in (record { signer = no_buyer; slip = slip R ks xs; mark = mark R ks xs }) copied_buyer
         (λ g h. absurd (h refl))
 
     forged_seller : {d : Deed} → Taken room R d ks xs → SellerVouched T (request_signature R ks xs)
     forged_seller t =
-        item_of t (SellerVouched T) Item.q request_signed_in (record { signer = no_seller; mark = mark R ks xs; slip = slip R ks xs })
+        item_of t (SellerVouched T) Item.Q request_signed_in (record { signer = no_seller; mark = mark R ks xs; slip = slip R ks xs })
         (λ w m y h. seller_grows grows ((sound_as R AuthRequest w (sound w m) y).1.1 h)) (λ g h. absurd (h refl))
 
     added_sound : (d : Deed) → (added R ks xs answers d ∈ T) → Taken room R d ks xs → Sound T (added R ks xs answers d)

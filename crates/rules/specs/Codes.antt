@@ -1,21 +1,15 @@
 -- The tables of steps, document 01's two and what 02 adds to them: for each of the 38 codes what is done and which arguments it takes, in
 -- order.
 use Rattle.std.specs.Prelude.{ℕ, ◌-◌, Bool, ◌&&◌, List, [], ◌∷◌, leb, get_or, length}
-use Rattle.messages.specs.Layout.{AuthRequest, AuthResponse, Initiate, Invoice, Kind, Payment, filled}
+use Rattle.messages.specs.Layout.{filled}
+use Rattle.messages.specs.declared.kind.Kind.{Kind}
+use Rattle.messages.specs.declared.kind.Kind.TheVariants.{AuthRequest, AuthResponse, Initiate, Invoice, Payment}
 use Rattle.messages.specs.declared.parts.Gateway.{Gateway}
 use Rattle.rules.specs.Honest.{false_gateway, house}
-
--- what the outsider takes from a message at a place: h hashed account, m mark, e slip, r drawer and draw, v invoice signature,
--- q seller's request signature, p buyer's signature, g gateway signature
-pub data Item : Type 0 where
-  h m e r v q p g : Item
-
--- B a buyer, S a seller, c a response code; the rest are places: of a message of a kind, of one that yields an item, or (a) of one
--- that yields an account, where 0 is the outsider's own
-pub data Argument : Type 0 where
-  unused B S c a : Argument
-  the : Kind → Argument
-  at : Item → Argument
+use Rattle.rules.specs.declared.codes.Argument.{Argument}
+use Rattle.rules.specs.declared.codes.Argument.TheVariants.{A, At, B, C, S, The, Unused}
+use Rattle.rules.specs.declared.codes.Item.{Item}
+use Rattle.rules.specs.declared.codes.Item.TheVariants.{E, G, H, M, P, Q, R, V}
 
 -- what a step does: a buyer pays with a slip under the key of a gateway, the outsider forges a message of a kind
 pub data Deed : Type 0 where
@@ -29,55 +23,55 @@ pub record Row : Type 0 where
 
 -- six arguments: those that a row does not name are unused
 abbrev pub row : Deed → List Argument → Row
-row d ks = record { deed = d; takes = filled 6 unused ks }
+row d ks = record { deed = d; takes = filled 6 Unused ks }
 
 abbrev pub rows : List Row
 rows =
     -- 1 to 5: honest steps
     row starts (B ∷ S ∷ [])
-    ∷ row invoices (S ∷ the Initiate ∷ [])
-    ∷ row (pays house) (B ∷ the Initiate ∷ the Invoice ∷ [])
-    ∷ row asks (S ∷ the Invoice ∷ the Payment ∷ [])
-    ∷ row replies (the AuthRequest ∷ [])
+    ∷ row invoices (S ∷ The Initiate ∷ [])
+    ∷ row (pays house) (B ∷ The Initiate ∷ The Invoice ∷ [])
+    ∷ row asks (S ∷ The Invoice ∷ The Payment ∷ [])
+    ∷ row replies (The AuthRequest ∷ [])
     -- 6 and 7: forged Initiates
-    ∷ row (forges Initiate) (B ∷ S ∷ at h ∷ [])
-    ∷ row (forges Initiate) (S ∷ a ∷ at r ∷ [])
+    ∷ row (forges Initiate) (B ∷ S ∷ At H ∷ [])
+    ∷ row (forges Initiate) (S ∷ A ∷ At R ∷ [])
     -- 8 to 13: forged Invoices
-    ∷ row (forges Invoice) (S ∷ B ∷ at m ∷ at v ∷ [])
-    ∷ row (forges Invoice) (S ∷ B ∷ at h ∷ at v ∷ [])
-    ∷ row (forges Invoice) (S ∷ a ∷ at r ∷ at v ∷ [])
-    ∷ row (forges Invoice) (S ∷ B ∷ at m ∷ [])
-    ∷ row (forges Invoice) (S ∷ B ∷ at h ∷ [])
-    ∷ row (forges Invoice) (S ∷ a ∷ at r ∷ [])
+    ∷ row (forges Invoice) (S ∷ B ∷ At M ∷ At V ∷ [])
+    ∷ row (forges Invoice) (S ∷ B ∷ At H ∷ At V ∷ [])
+    ∷ row (forges Invoice) (S ∷ A ∷ At R ∷ At V ∷ [])
+    ∷ row (forges Invoice) (S ∷ B ∷ At M ∷ [])
+    ∷ row (forges Invoice) (S ∷ B ∷ At H ∷ [])
+    ∷ row (forges Invoice) (S ∷ A ∷ At R ∷ [])
     -- 14 to 21: forged Payments
-    ∷ row (forges Payment) (B ∷ S ∷ at e ∷ at p ∷ [])
-    ∷ row (forges Payment) (S ∷ a ∷ at r ∷ at m ∷ at p ∷ [])
-    ∷ row (forges Payment) (S ∷ a ∷ at r ∷ at p ∷ [])
-    ∷ row (forges Payment) (B ∷ S ∷ at e ∷ at m ∷ [])
-    ∷ row (forges Payment) (B ∷ S ∷ at e ∷ at h ∷ [])
-    ∷ row (forges Payment) (S ∷ at e ∷ a ∷ at r ∷ [])
-    ∷ row (forges Payment) (S ∷ a ∷ at r ∷ at m ∷ [])
-    ∷ row (forges Payment) (S ∷ a ∷ at r ∷ [])
+    ∷ row (forges Payment) (B ∷ S ∷ At E ∷ At P ∷ [])
+    ∷ row (forges Payment) (S ∷ A ∷ At R ∷ At M ∷ At P ∷ [])
+    ∷ row (forges Payment) (S ∷ A ∷ At R ∷ At P ∷ [])
+    ∷ row (forges Payment) (B ∷ S ∷ At E ∷ At M ∷ [])
+    ∷ row (forges Payment) (B ∷ S ∷ At E ∷ At H ∷ [])
+    ∷ row (forges Payment) (S ∷ At E ∷ A ∷ At R ∷ [])
+    ∷ row (forges Payment) (S ∷ A ∷ At R ∷ At M ∷ [])
+    ∷ row (forges Payment) (S ∷ A ∷ At R ∷ [])
     -- 22 to 33: forged Auth-Requests
-    ∷ row (forges AuthRequest) (S ∷ at m ∷ at e ∷ at q ∷ at p ∷ [])
-    ∷ row (forges AuthRequest) (S ∷ B ∷ at h ∷ at e ∷ at q ∷ at p ∷ [])
-    ∷ row (forges AuthRequest) (S ∷ a ∷ at r ∷ at q ∷ at p ∷ [])
-    ∷ row (forges AuthRequest) (S ∷ at m ∷ at e ∷ at p ∷ [])
-    ∷ row (forges AuthRequest) (S ∷ B ∷ at h ∷ at e ∷ at p ∷ [])
-    ∷ row (forges AuthRequest) (S ∷ a ∷ at r ∷ at p ∷ [])
-    ∷ row (forges AuthRequest) (S ∷ at m ∷ at e ∷ at q ∷ [])
-    ∷ row (forges AuthRequest) (S ∷ B ∷ at h ∷ at e ∷ at q ∷ [])
-    ∷ row (forges AuthRequest) (S ∷ a ∷ at r ∷ at q ∷ [])
-    ∷ row (forges AuthRequest) (S ∷ at m ∷ at e ∷ [])
-    ∷ row (forges AuthRequest) (S ∷ B ∷ at h ∷ at e ∷ [])
-    ∷ row (forges AuthRequest) (S ∷ a ∷ at r ∷ [])
+    ∷ row (forges AuthRequest) (S ∷ At M ∷ At E ∷ At Q ∷ At P ∷ [])
+    ∷ row (forges AuthRequest) (S ∷ B ∷ At H ∷ At E ∷ At Q ∷ At P ∷ [])
+    ∷ row (forges AuthRequest) (S ∷ A ∷ At R ∷ At Q ∷ At P ∷ [])
+    ∷ row (forges AuthRequest) (S ∷ At M ∷ At E ∷ At P ∷ [])
+    ∷ row (forges AuthRequest) (S ∷ B ∷ At H ∷ At E ∷ At P ∷ [])
+    ∷ row (forges AuthRequest) (S ∷ A ∷ At R ∷ At P ∷ [])
+    ∷ row (forges AuthRequest) (S ∷ At M ∷ At E ∷ At Q ∷ [])
+    ∷ row (forges AuthRequest) (S ∷ B ∷ At H ∷ At E ∷ At Q ∷ [])
+    ∷ row (forges AuthRequest) (S ∷ A ∷ At R ∷ At Q ∷ [])
+    ∷ row (forges AuthRequest) (S ∷ At M ∷ At E ∷ [])
+    ∷ row (forges AuthRequest) (S ∷ B ∷ At H ∷ At E ∷ [])
+    ∷ row (forges AuthRequest) (S ∷ A ∷ At R ∷ [])
     -- 34 to 37: forged Auth-Responses
-    ∷ row (forges AuthResponse) (S ∷ c ∷ at g ∷ [])
-    ∷ row (forges AuthResponse) (S ∷ c ∷ at m ∷ [])
-    ∷ row (forges AuthResponse) (S ∷ B ∷ c ∷ at h ∷ [])
-    ∷ row (forges AuthResponse) (S ∷ c ∷ a ∷ at r ∷ [])
+    ∷ row (forges AuthResponse) (S ∷ C ∷ At G ∷ [])
+    ∷ row (forges AuthResponse) (S ∷ C ∷ At M ∷ [])
+    ∷ row (forges AuthResponse) (S ∷ B ∷ C ∷ At H ∷ [])
+    ∷ row (forges AuthResponse) (S ∷ C ∷ A ∷ At R ∷ [])
     -- 38, for a buyer who was sent to the false gateway: as step 3, but the slip is under key 0
-    ∷ row (pays false_gateway) (B ∷ the Initiate ∷ the Invoice ∷ [])
+    ∷ row (pays false_gateway) (B ∷ The Initiate ∷ The Invoice ∷ [])
     ∷ []
 
 -- codes count from 1, and there are as many as rows
@@ -91,16 +85,16 @@ known code = leb 1 code && leb code most_code
 abbrev pub row_of : ℕ → Row
 row_of code = get_or rows (code - 1) (row starts [])
 
--- the letters that stand for arguments in the code's table
+-- a letter for each argument, by which arguments are compared
 abbrev pub item_letter : Item → ℕ
-item_letter h = 104
-item_letter m = 109
-item_letter e = 101
-item_letter r = 114
-item_letter v = 118
-item_letter q = 113
-item_letter p = 112
-item_letter g = 103
+item_letter H = 104
+item_letter M = 109
+item_letter E = 101
+item_letter R = 114
+item_letter V = 118
+item_letter Q = 113
+item_letter P = 112
+item_letter G = 103
 
 abbrev pub kind_letter : Kind → ℕ
 kind_letter Initiate = 73
@@ -110,10 +104,10 @@ kind_letter AuthRequest = 81
 kind_letter AuthResponse = 82
 
 abbrev pub letter : Argument → ℕ
-letter unused = 45
+letter Unused = 45
 letter B = 66
 letter S = 83
-letter c = 99
-letter a = 97
-letter (the k) = kind_letter k
-letter (at i) = item_letter i
+letter C = 99
+letter A = 97
+letter (The k) = kind_letter k
+letter (At i) = item_letter i

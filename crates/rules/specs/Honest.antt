@@ -1,23 +1,6 @@
 -- The honest steps: what each wants of the messages that it names, as a list of claims, and the message that it adds.
 use Rattle.std.specs.Prelude.{ℕ, ◌+◌, ◌/◌, ◌%◌, ◌^◌, Bool, cond, List, [], ◌∷◌, eqb}
-use Rattle.messages.specs.Layout.{
-  an_auth_request,
-  an_auth_response,
-  an_initiate,
-  an_invoice,
-  a_payment,
-  body,
-  destination,
-  initiate_account,
-  invoice_signed,
-  maker,
-  mark_buyer,
-  payment_signed,
-  request_buyer_signed,
-  request_signed,
-  request_slip,
-  source,
-}
+use Rattle.messages.specs.Layout.{an_auth_request, an_auth_response, an_initiate, an_invoice, a_payment, body, destination, initiate_account, invoice_signed, maker, mark_buyer, payment_signed, request_buyer_signed, request_signed, request_slip, source}
 use Rattle.messages.specs.Parts.{
   Message,
   account_at,

@@ -1,6 +1,7 @@
 -- The report on a reply: whether the four messages of its payment stand earlier in the record.
 use Rattle.std.specs.Prelude.{ℕ, ◌-◌, Bool, false, ◌&&◌, ◌||◌, cond, List, [], ◌∷◌, eqb, take}
-use Rattle.messages.specs.Layout.{AuthResponse, maker}
+use Rattle.messages.specs.Layout.{maker}
+use Rattle.messages.specs.declared.kind.Kind.TheVariants.{AuthResponse}
 use Rattle.messages.specs.Parts.{Message, gateway_at}
 use Rattle.record.specs.Table.{Record, lawful_record, message_at, messages}
 use Rattle.messages.specs.Tests.{between, every, same}

@@ -1,26 +1,15 @@
 -- One step against a record: its verdict, refusals 2 to 7 in order or the message added; and against a flat table with a count, where
 -- refusal 1 comes first.
 use Rattle.std.specs.Prelude.{ℕ, ◌+◌, Bool, cond, List, [], ◌∷◌, ◌++◌, ltb, drop, get_or, length}
-use Rattle.messages.specs.Layout.{AuthRequest, Initiate, Invoice, Payment}
+use Rattle.messages.specs.declared.kind.Kind.TheVariants.{AuthRequest, Initiate, Invoice, Payment}
 use Rattle.messages.specs.Parts.{Message}
 use Rattle.record.specs.Table.{Record, lawful_record, message_at, messages, room_of, with_message}
 use Rattle.messages.specs.Tests.{all}
 use Rattle.messages.specs.declared.parts.Buyer.{Buyer}
 use Rattle.messages.specs.declared.parts.Place.{Place}
 use Rattle.messages.specs.declared.parts.Seller.{Seller}
-use Rattle.rules.specs.Codes.{
-  Argument,
-  Deed,
-  Row,
-  asks,
-  forges,
-  invoices,
-  known,
-  pays,
-  replies,
-  row_of,
-  starts,
-}
+use Rattle.rules.specs.Codes.{Deed, Row, asks, forges, invoices, known, pays, replies, row_of, starts}
+use Rattle.rules.specs.declared.codes.Argument.{Argument}
 use Rattle.rules.specs.Forged.{forged, given}
 use Rattle.rules.specs.Gates.{Gate, ◌unless◌, through}
 use Rattle.rules.specs.Honest.{
@@ -66,16 +55,16 @@ module _ (R : Record) (ks : List Argument) (xs : List ℕ) where
   the_seller = record { 0 = given Argument.S ks xs }
 
   abbrev pub the_initiate : Message
-  the_initiate = message_at R (record { 0 = given (Argument.the Initiate) ks xs })
+  the_initiate = message_at R (record { 0 = given (Argument.The Initiate) ks xs })
 
   abbrev pub the_invoice : Message
-  the_invoice = message_at R (record { 0 = given (Argument.the Invoice) ks xs })
+  the_invoice = message_at R (record { 0 = given (Argument.The Invoice) ks xs })
 
   abbrev pub the_payment : Message
-  the_payment = message_at R (record { 0 = given (Argument.the Payment) ks xs })
+  the_payment = message_at R (record { 0 = given (Argument.The Payment) ks xs })
 
   abbrev pub the_request : Message
-  the_request = message_at R (record { 0 = given (Argument.the AuthRequest) ks xs })
+  the_request = message_at R (record { 0 = given (Argument.The AuthRequest) ks xs })
 
   -- refusal 6: an honest step's condition
   abbrev pub claims : Deed → List Claim

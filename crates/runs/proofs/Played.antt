@@ -7,7 +7,7 @@ use native.Mathlib.Nat.{add_comm, add-zero, le_of_eq, suc-mul, zero-add}
 use native.Mathlib.Numerals.{add-one}
 use native.Mathlib.Omega.{arith}
 use lib.ListN.{drop, drop_of_length-le, get_or, length, length-append, length-drop, length-set, set, take, take-append-drop}
-use lib.Seq.{drop_at, drop-cons, drop-drop, get_or-drop, length-take-le, paste, paste-suc, paste-zero, take-add, take_all}
+use lib.Seq.{drop_at, take_at, drop-cons, drop-drop, get_or-drop, length-take-le, paste, paste-suc, paste-zero, take-add, take_all}
 use Rattle.record.proofs.Cut.{cut_at, length_cut, messages_with}
 use Rattle.messages.specs.Layout.{flat, message_width}
 use Rattle.messages.specs.Parts.{Message}
@@ -16,21 +16,26 @@ use Rattle.record.specs.Table.{Record, messages, most_room, room_of, whole, with
 use Rattle.rules.proofs.Accepted.{is_accepted}
 use Rattle.rules.proofs.Runs.{verdicts_length}
 use Rattle.rules.specs.Run.{called, over, played, step_count, step_width, steps_of, verdicts}
-use Rattle.rules.specs.Step.{Outcome, Step, accepted, judge, number_of, record_after, refused}
-use Rattle.runs.specs.Ran.{OnePlayed, Plays}
-use Rattle.step.specs.Answer.{Answered}
-use Rattle.step.specs.declared.judge.Answer.TheVariants.{Accepted, Refused}
+use Rattle.rules.specs.Step.{Outcome, Step, accepted, count_after, judge, number_of, record_after, refused, table_after}
+use Rattle.runs.specs.Ran.{Plays}
+use Rattle.step.specs.Answer.{Answered, answer_number}
+use Rattle.refusals.specs.declared.Refusal.{Refusal}
+use Rattle.std.proofs.Common.{Err, MatchResult, Ok, Result}
 use Rattle.messages.specs.declared.parts.Place.{Place}
 
-pub one_accepted : (n : ℕ) (t : List ℕ) (o : Outcome) (p : Place) (left : List ℕ) → (o ≡ refused 0 → ⊥) → Answered n t o (Accepted p) left
-    → OnePlayed n t o 0 p.0 left
-one_accepted n t (accepted x) p left h w = record { judged = w.number; counted = w.place; table = w.table }
-one_accepted n t (refused zero) p left h w = absurd (h refl)
-one_accepted n t (refused (suc k)) p left h w = let z = w.number in absurd (omega arith)
+-- what one step leaves, by its outcome: its number, how many messages then stand, and the table
+pub record OnePlayed (n : ℕ) (t : List ℕ) (o : Outcome) (number count : ℕ) (left : List ℕ) : Type 0 where
+  pub judged : number ≡ number_of o
+  pub counted : count ≡ count_after n o
+  pub table : left ≡ table_after n t o
 
-pub one_refused : (n : ℕ) (t : List ℕ) (o : Outcome) (k : ℕ) (left : List ℕ) → Answered n t o (Refused k) left → OnePlayed n t o k n left
-one_refused n t (accepted x) k left w = let z = w.place in absurd (omega arith)
-one_refused n t (refused j) k left w = record { judged = w.number; counted = refl; table = w.table }
+pub one_played : (n : ℕ) (t : List ℕ) (o : Outcome) (r : Result Place Refusal) (k count : ℕ) (left : List ℕ) → (o ≡ refused 0 → ⊥)
+    → Answered n t o r left → k ≡ answer_number r → MatchResult r (λ p. count ≡ p.0) (λ e. count ≡ n) → OnePlayed n t o k count left
+one_played n t (accepted x) (Ok p) k count left h w a b = record { judged = a ∙ w.number; counted = b ∙ w.place; table = w.table }
+one_played n t (refused zero) r k count left h w a b = absurd (h refl)
+one_played n t (refused (suc j)) (Ok p) k count left h w a b = let z = w.number in absurd (omega arith)
+one_played n t (accepted x) (Err e) k count left h w a b = let z = w.place in absurd (omega arith)
+one_played n t (refused (suc j)) (Err e) k count left h w a b = record { judged = a ∙ w.number; counted = b; table = w.table }
 
 -- an accepted step had room
 had_room : (answers n : ℕ) (t s : List ℕ) (x : Message) → judge answers (room_of t) (messages n t) s ≡ accepted x → n < room_of t
@@ -104,9 +109,23 @@ begin answers t xs bytes =
       so_far = paste-zero bytes 0 (verdicts answers (room_of t) [] (steps_of xs));
     }
 
--- the step at i
-pub step_at : (xs : List ℕ) (i : ℕ) → i < step_count xs → get_or (steps_of xs) i [] ≡ take step_width (drop (i * step_width) xs)
-step_at xs i h = cut_at step_width (step_count xs) xs i h
+-- the chunk that comes next is the step at i
+pub is_step : (xs s rest : List ℕ) (i : ℕ) → i < step_count xs → drop (i * step_width) xs ≡ s ++ rest → length s ≡ step_width
+    → s ≡ get_or (steps_of xs) i []
+is_step xs s rest i h e l =
+    sym (take_at s rest step_width l) ∙ ap (take step_width) (sym e) ∙ sym (cut_at step_width (step_count xs) xs i h)
+
+pub rest_after : (xs s rest : List ℕ) (i : ℕ) → drop (i * step_width) xs ≡ s ++ rest → length s ≡ step_width → rest ≡ drop ((i + 1) * step_width) xs
+rest_after xs s rest i e l =
+    sym (drop_at s rest step_width l) ∙ ap (drop step_width) (sym e) ∙ drop-drop step_width (i * step_width) xs
+    ∙ ap (λ (k : ℕ). drop k xs) (omega arith)
+
+-- one comes while a whole step is left
+pub comes : (xs s rest : List ℕ) (i : ℕ) → drop (i * step_width) xs ≡ s ++ rest → length s ≡ step_width → i < step_count xs
+comes xs s rest i e l = omega (arith, length-drop (i * step_width) xs, ap length e, length-append s rest)
+
+pub ends : (xs : List ℕ) (i : ℕ) → i ≤ step_count xs → length (drop (i * step_width) xs) < step_width → i ≡ step_count xs
+ends xs i h l = omega (arith, length-drop (i * step_width) xs)
 
 module _ (answers : ℕ) (t₀ xs bytes₀ t bytes : List ℕ) (n i : ℕ) (going : Going answers t₀ xs bytes₀ t bytes n i) (more : i < step_count xs)
     (fits : step_count xs ≤ length bytes₀) (s : Step) (named : s ≡ get_or (steps_of xs) i []) where

@@ -9,7 +9,10 @@ use lib.ListN.{length}
 use Rattle.record.specs.Table.{whole}
 use Rattle.rules.specs.Run.{Ran as RanOf, run, step_count, whole_steps}
 use Rattle.runs.specs.Ran.{Leaves, Plays}
-use Rattle.runs.specs.declared.run.Ran.TheVariants.{Messages, Refused}
+use Rattle.refusals.specs.Numbers.{refusal_number}
+use Rattle.refusals.specs.declared.Refusal.{Refusal}
+use Rattle.refusals.specs.declared.Refusal.TheVariants.{Record, Steps, Verdicts}
+use Rattle.std.proofs.Common.{Err, Ok}
 use Rattle.record.proofs.Whole.{most}
 use Rattle.messages.proofs.Picks.{no, yes}
 
@@ -17,31 +20,32 @@ module _ (answers : ℕ) (t xs bytes : List ℕ) where
   nothing : ℕ → RanOf
   nothing k = record { number = k; n = 0; table = t; verdict_bytes = bytes }
 
-  refuses : (k : ℕ) → true ≡ not (eqb k 0) → run answers t xs bytes ≡ nothing k → Leaves (run answers t xs bytes) (Refused k) t bytes
+  refuses : (r : Refusal) → true ≡ not (eqb (refusal_number r) 0) → run answers t xs bytes ≡ nothing (refusal_number r)
+      → Leaves (run answers t xs bytes) (Err r) t bytes
   unfolding nothing
-  refuses k h e =
-      subst (λ (o : RanOf). Leaves o (Refused k) t bytes) (sym e)
+  refuses r h e =
+      subst (λ (o : RanOf). Leaves o (Err r) t bytes) (sym e)
       (record { number = refl; n = refl; told_apart = h; table_left = refl; bytes_left = refl; small = zero-le })
 
-  pub not_whole : whole t ≡ false → Leaves (run answers t xs bytes) (Refused 1) t bytes
+  pub not_whole : whole t ≡ false → Leaves (run answers t xs bytes) (Err Record) t bytes
   unfolding run nothing
-  not_whole e = refuses 1 refl (sym (no _ e refl))
+  not_whole e = refuses Record refl (sym (no _ e refl))
 
   module _ (a : whole t ≡ true) where
-    pub no_steps : whole_steps xs ≡ false → Leaves (run answers t xs bytes) (Refused 8) t bytes
+    pub no_steps : whole_steps xs ≡ false → Leaves (run answers t xs bytes) (Err Steps) t bytes
     unfolding run nothing
-    no_steps e = refuses 8 refl (sym (yes _ a (no _ e refl)))
+    no_steps e = refuses Steps refl (sym (yes _ a (no _ e refl)))
 
     module _ (b : whole_steps xs ≡ true) where
-      pub few_bytes : leb (step_count xs) (length bytes) ≡ false → Leaves (run answers t xs bytes) (Refused 9) t bytes
+      pub few_bytes : leb (step_count xs) (length bytes) ≡ false → Leaves (run answers t xs bytes) (Err Verdicts) t bytes
       unfolding run nothing
-      few_bytes e = refuses 9 refl (sym (yes _ a (yes _ b (no _ e refl))))
+      few_bytes e = refuses Verdicts refl (sym (yes _ a (yes _ b (no _ e refl))))
 
       pub plays : (n : ℕ) (table left : List ℕ) → leb (step_count xs) (length bytes) ≡ true → Plays answers t xs bytes n table left
-          → Leaves (run answers t xs bytes) (Messages n) table left
+          → Leaves (run answers t xs bytes) (Ok n) table left
       unfolding run
       plays n table left e w =
-          subst (λ (o : RanOf). Leaves o (Messages n) table left) (yes _ a (yes _ b (yes _ e refl)))
+          subst (λ (o : RanOf). Leaves o (Ok n) table left) (yes _ a (yes _ b (yes _ e refl)))
           (record {
             number = refl;
             n = w.counted;

@@ -1,53 +1,30 @@
 // A run of a list of steps: each is judged against what the steps before it left, and a refused one does not stop it.
 ghost use Rattle.std.specs.Prelude.{true, ◌≡◌, ◌≤◌, length};
-ghost use Rattle.arguments.specs.Lent.{table_letters};
-ghost use Rattle.record.specs.Table.{messages, room_of, whole};
+ghost use Rattle.record.specs.Table.{room_of, whole};
 ghost use Rattle.rules.specs.Run.{run as run_of, step_count, whole_steps};
-ghost use Rattle.rules.specs.Step.{judge};
-ghost use Rattle.runs.specs.Ran.{Leaves, OnePlayed, Plays};
+ghost use Rattle.runs.specs.Ran.{Leaves, Plays};
+ghost use Rattle.step.specs.Answer.{answer_number};
 
-use arguments::codes::all_rows;
+use messages::parts::Place;
 use record::table::is_whole;
-use step::judge::{Answer, judge_step};
-
-pub const STEP_WIDTH: usize = 7;
-
-pub const MOST_STEPS: usize = 1024;
-
-// What a run answers: how many messages the record then has, or the number of the refusal.
-#[derive(Clone, Copy)]
-pub enum Ran {
-    Messages(usize),
-    Refused(u8),
-}
+use refusals::Refusal;
+use rules::steps::{MOST_STEPS, STEP_WIDTH};
+use step::judge::judge_step;
 
 // Refusal 8: whole steps, and not too many.
 fn are_whole_steps(steps: &[u16]) -> bool
     ensures { result ≡ whole_steps steps.now }
 {
-    if steps.len() % STEP_WIDTH != 0 {
-        return false;
-    }
-    steps.len() <= MOST_STEPS * STEP_WIDTH
+    steps.len() % STEP_WIDTH == 0 && steps.len() <= MOST_STEPS * STEP_WIDTH
 }
 
-// How many messages stand in the record after a step, and the step's number.
-#[derive(Clone, Copy)]
-struct After {
-    n: usize,
-    number: u8,
-}
-
-fn play_one(t: &mut [u16], n: usize, answers: u16, rows: &[u8], s: &[u16]) -> After
-    requires { (whole t.old ≡ true) × (n ≤ room_of t.old) × (rows.now ≡ table_letters) × (length s.now ≡ 7) }
-    ensures { OnePlayed n t.old (judge answers (room_of t.old) (messages n t.old) s.now) result.number result.n t.new }
+// The verdict byte of a step, a number since a host in C lends the bytes.
+fn verdict(answer: Result<Place, Refusal>) -> u8
+    ensures { result ≡ answer_number answer }
 {
-    match judge_step(t, n, answers, rows, s) {
-        Answer::Accepted(place) => After {
-            n: place.0,
-            number: 0,
-        },
-        Answer::Refused(number) => After { n, number },
+    match answer {
+        Ok(_) => 0,
+        Err(refusal) => u8::from(refusal),
     }
 }
 
@@ -56,38 +33,32 @@ pub fn play(t: &mut [u16], answers: u16, steps: &[u16], verdicts: &mut [u8]) -> 
     requires { (whole t.old ≡ true) × (step_count steps.now ≤ length verdicts.old) }
     ensures { Plays answers t.old steps.now verdicts.old result t.new verdicts.new }
 {
-    let rows = all_rows();
-    let count = steps.len() / STEP_WIDTH;
     let mut n = 0;
-    let mut i = 0;
-    while i < count {
-        let from = i * STEP_WIDTH;
-        let to = from + STEP_WIDTH;
-        let after = play_one(t, n, answers, &rows, &steps[from..to]);
-        n = after.n;
-        verdicts[i] = after.number;
-        i += 1;
+    for (i, s) in steps.chunks_exact(STEP_WIDTH).enumerate() {
+        let answer = judge_step(t, n, answers, s);
+        verdicts[i] = verdict(answer);
+        n = answer.map_or(n, |place| place.0);
     }
     n
 }
 
-// All tests are made before any is answered.
-pub fn run(t: &mut [u16], answers: u16, steps: &[u16], verdicts: &mut [u8]) -> Ran
+// How many messages the record then has.
+pub fn run(
+    t: &mut [u16],
+    answers: u16,
+    steps: &[u16],
+    verdicts: &mut [u8],
+) -> Result<usize, Refusal>
     ensures { Leaves (run_of answers t.old steps.now verdicts.old) result t.new verdicts.new }
 {
-    let broken = !is_whole(t);
-    let uneven = !are_whole_steps(steps);
-    let count = steps.len() / STEP_WIDTH;
-    let short = verdicts.len() < count;
-    if broken {
-        return Ran::Refused(1);
+    if !is_whole(t) {
+        return Err(Refusal::Record);
     }
-    if uneven {
-        return Ran::Refused(8);
+    if !are_whole_steps(steps) {
+        return Err(Refusal::Steps);
     }
-    if short {
-        return Ran::Refused(9);
+    if verdicts.len() < steps.len() / STEP_WIDTH {
+        return Err(Refusal::Verdicts);
     }
-    let n = play(t, answers, steps, verdicts);
-    Ran::Messages(n)
+    Ok(play(t, answers, steps, verdicts))
 }

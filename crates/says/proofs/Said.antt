@@ -1,84 +1,96 @@
 -- What a line says, by the code's tests: line 1 in one go, a step number by number.
-use Rattle.std.proofs.Common.{Bool, true, false, ◌&&◌, cond, true≢false, List, [], ◌∷◌, ◌++◌, map, append_assoc, append-nil, ◌≡◌, ◌∙◌, refl, sym, ap, ap₂, subst, ℕ, zero, suc, ◌+◌, ◌-◌, ◌≤◌, ◌<◌, eq-eqb, le-leb, leb-false, leb-true, arith, eqb, leb, drop, drop_of_length-le, get_or, length, length-append, length-drop, length-take, replicate, set, take, drop-drop, take_all}
-use Rattle.std.proofs.Math.Seq.{set_at, take-nil}
-use Rattle.std.proofs.lemmas.Bool.{false≢true, lt-leb}
+use Rattle.std.proofs.Common.{None, Option, Some, Bor, Bool, true, false, ◌&&◌, cond, List, [], ◌∷◌, ◌++◌, map, append_assoc, append-nil, ◌≡◌, ◌∙◌, refl, sym, ap, ap₂, subst, ⊎_elim, ℕ, zero, suc, ◌+◌, ◌-◌, ◌≤◌, ◌<◌, le-leb, arith, eqb, leb, drop, drop_of_length-le, get_or, length, length-append, length-take, replicate, set, take}
+use Rattle.std.proofs.Math.Seq.{set_at}
+use Rattle.std.proofs.lemmas.Bool.{lt-leb}
 use Rattle.std.proofs.lemmas.List.{length-map}
+use Rattle.std.proofs.str.Laws.{order}
+use Rattle.std.specs.Iterator.{AlwaysYields}
+use Rattle.std.specs.Cmp.Lexicographic.{pointwise}
+use Rattle.std.proofs.lemmas.Iterator.{YieldsList}
+use Rattle.std.specs.List.{enumerate_from, slice_split}
+use Rattle.says.proofs.Parts.{split_parts}
 use Rattle.messages.proofs.Chain.{last, skip}
 use Rattle.messages.specs.Layout.{filled}
 use Rattle.messages.specs.Tests.{all, every, same}
 use Rattle.rules.specs.Run.{step_width}
-use Rattle.says.proofs.Parts.{first_part, only_part}
-use Rattle.lines.proofs.Parted.{before_within}
 use Rattle.numbers.proofs.Values.{fails}
 use Rattle.numbers.specs.Digits.{is_number, value_of}
 use Rattle.numbers.specs.Number.{number_in}
-use Rattle.numbers.specs.declared.Number.{Number}
-use Rattle.numbers.specs.declared.Number.TheVariants.{Is, Unreadable}
-use Rattle.says.specs.Says.{answers_said, numbers_said, read_as, step_said, unread}
-use Rattle.lines.specs.Lines.{Text, before, onto, tab}
-use Rattle.says.specs.Text.{answers_in, answers_start, body, is_answers_line, is_ended, is_step_line, letter_a, parts, step_in}
+use Rattle.says.specs.Says.{answers_said, numbers_said, step_said}
+use Rattle.lines.specs.Lines.{Text, tab}
+use Rattle.says.specs.Text.{answers_in, answers_start, body, is_answers_line, is_ended, is_step_line, parts, step_in}
 
 -- line 1
-
--- a part of a text, cut at its end first or at its start
-part_of : (f t : ℕ) (l : Text) → f ≤ t → drop f (take t l) ≡ take (t - f) (drop f l)
-part_of zero t l h = let e : t ≡ t - 0 = omega arith in ap (λ (k : ℕ). take k l) e
-part_of (suc f) zero l h = absurd (omega arith)
-part_of (suc f) (suc t) [] h = sym (take-nil (suc t - suc f))
-part_of (suc f) (suc t) (x ∷ l) h =
-    let e : t - f ≡ suc t - suc f = omega arith in
-    part_of f t l (omega arith) ∙ ap (λ (k : ℕ). take k (drop f l)) e
 
 no_number : is_number [] ≡ false
 unfolding is_number
 no_number = refl
 
-abbrev pub starting : Text → List Bool
-starting l = eqb (get_or l 0 0) letter_a ∷ eqb (get_or l 1 0) tab ∷ []
+-- as std compares two lists
+starts : (t : Text) → pointwise eqb (take 2 t) answers_start ≡ same (take 2 t) answers_start
+starts [] = refl
+starts (x ∷ []) = refl
+starts (x ∷ y ∷ t) = refl
 
-starts : (l : Text) → 2 ≤ length l → same (take 2 l) answers_start ≡ every (starting l)
-starts [] h = absurd (omega arith)
-starts (x ∷ []) h = absurd (omega arith)
-starts (x ∷ y ∷ l) h = refl
+two_of : (n : ℕ) (t : Text) → 2 ≤ n → take 2 (take n t) ≡ take 2 t
+two_of zero t h = absurd (omega arith)
+two_of (suc zero) t h = absurd (omega arith)
+two_of (suc (suc n)) [] h = refl
+two_of (suc (suc n)) (x ∷ []) h = refl
+two_of (suc (suc n)) (x ∷ y ∷ t) h = refl
 
 module _ (l : Text) where
-  abbrev tests : List Bool
+  abbrev pub tests : List Bool
   tests = is_ended l ∷ same (take 2 l) answers_start ∷ is_number (drop 2 (body l)) ∷ []
 
-  pub no_answers : (k : ℕ) → get_or tests k true ≡ false → Unreadable ≡ answers_said l
+  pub no_answers : (k : ℕ) → get_or tests k true ≡ false → None ≡ answers_said l
   unfolding is_answers_line
-  no_answers k e = ap (λ (b : Bool). cond b (Is (answers_in l)) Unreadable) (sym (fails tests k e))
+  no_answers k e = ap (λ (b : Bool). cond b (Some (answers_in l)) None) (sym (fails tests k e))
 
-  pub too_short : length l - 1 < 2 → Unreadable ≡ answers_said l
-  too_short h =
-      no_answers 2
-      (ap is_number (drop_of_length-le (body l) {i = 2} (omega (arith, length-take (length l - 1) l))) ∙ no_number)
+  module _ (b : Text) (is : b ≡ body l) where
+    start_of : 2 ≤ length b → pointwise eqb (take 2 b) answers_start ≡ same (take 2 l) answers_start
+    start_of h =
+        starts b ∙ ap (λ (t : Text). same (take 2 t) answers_start) is
+        ∙ ap (λ (t : Text). same t answers_start) (two_of (length l - 1) l (omega (arith, ap length is, length-take (length l - 1) l)))
 
-  pub other_start : 2 ≤ length l → (k : ℕ) → get_or (starting l) k true ≡ false → Unreadable ≡ answers_said l
-  other_start h k e = no_answers 1 (starts l h ∙ fails (starting l) k e)
+    pub no_start : pointwise eqb (take 2 b) answers_start ≡ false → None ≡ answers_said l
+    no_start e =
+        ⊎_elim
+        (λ few. no_answers 2 (ap is_number (drop_of_length-le (body l) {i = 2} (omega (arith, ap length is))) ∙ no_number))
+        (λ many. no_answers 1 (sym (start_of many) ∙ e))
+        (order (length b) 2)
 
-  pub answers_read : is_ended l ≡ true → 2 ≤ length l - 1 → get_or l 0 0 ≡ letter_a → get_or l 1 0 ≡ tab
-      → number_in (take (length l - 1 - 2) (drop 2 l)) ≡ answers_said l
-  unfolding is_answers_line answers_in
-  answers_read e h a t =
-      let given : is_number (drop 2 (body l)) ≡ every tests =
-      skip e (skip (starts l (omega arith) ∙ sym (skip (eq-eqb _ _ a) (last (sym (eq-eqb _ _ t))))) (last refl)) in
-      ap number_in (sym (part_of 2 (length l - 1) l h))
-      ∙ ap (λ (b : Bool). cond b (Is (value_of (drop 2 (body l)))) Unreadable) given
+    pub answers_read : is_ended l ≡ true → 2 ≤ length b → pointwise eqb (take 2 b) answers_start ≡ true → (digits : Text) → digits ≡ drop 2 b
+        → number_in digits ≡ answers_said l
+    unfolding is_answers_line answers_in
+    answers_read ended h e digits f =
+        let given : is_number (drop 2 (body l)) ≡ every tests = skip ended (skip (sym (start_of h) ∙ e) (last refl)) in
+        ap number_in (f ∙ ap (drop 2) is)
+        ∙ ap (λ (b : Bool). cond b (Some (value_of (drop 2 (body l)))) None) given
 
--- a step: some of its numbers are read, up to a position
+-- a step: its first numbers are read, and those of the other parts are still to be read
 
-pub record Going (xs : Text) (numbers : List ℕ) (count at : ℕ) : Type 0 where
+pub record Going {S : Type 0} (gives : S → Option (ℕ × Bor Text) → S → Type 0) (it : S) (xs : Text) (numbers : List ℕ) : Type 0 where
   pub done : List ℕ
-  pub upto : at ≤ length xs
-  pub readable : all is_number (parts (drop at xs)) ≡ all is_number (parts xs)
-  pub values : map value_of (parts xs) ≡ done ++ map value_of (parts (drop at xs))
-  pub as_many : length done ≡ count
+  pub rest : List Text
+  pub few : length done ≤ step_width
+  pub yields : AlwaysYields gives (λ p. (p.0, p.1.now)) it (enumerate_from (length done) rest)
+  pub readable : all is_number rest ≡ all is_number (parts xs)
+  pub values : map value_of (parts xs) ≡ done ++ map value_of rest
   pub filled_up : numbers ≡ filled step_width 0 done
 
-pub begin : (xs : Text) → Going xs (replicate step_width 0) 0 0
-begin xs =
-    record { done = []; upto = omega arith; readable = refl; values = refl; as_many = refl; filled_up = refl }
+pub begin : {S : Type 0} (gives : S → Option (ℕ × Bor Text) → S → Type 0) (it : S) (xs : Text)
+    → YieldsList gives (λ p. (p.0, p.1.now)) it (enumerate_from 0 (slice_split (λ x. eqb x tab) xs)) → Going gives it xs (replicate step_width 0)
+begin gives it xs y =
+    record {
+      done = [];
+      rest = parts xs;
+      few = omega arith;
+      yields = subst (λ (ps : List Text). AlwaysYields gives (λ p. (p.0, p.1.now)) it (enumerate_from 0 ps)) (split_parts xs) y.runs;
+      readable = refl;
+      values = refl;
+      filled_up = refl;
+    }
 
 -- the next zero is replaced
 next_filled : (done : List ℕ) (v : ℕ) → length done < step_width
@@ -92,142 +104,98 @@ next_filled done v h =
     ∙ sym (append_assoc done (v ∷ []) (replicate m 0))
     ∙ ap (λ (k : ℕ). (done ++ v ∷ []) ++ replicate k 0) f
 
--- what an answer of the number's reader says
-is_read : Number → Bool
-is_read (Is v) = true
-is_read Unreadable = false
+-- what stands behind an answer, and behind none
+pub read_by : {A : Type 0} (b : Bool) (v w : A) → Some v ≡ cond b (Some w) None → (b ≡ true) × (v ≡ w)
+read_by true v w e = (refl, cc)
+read_by false v w e = absurd (cc)
 
-value_read : Number → ℕ
-value_read (Is v) = v
-value_read Unreadable = 0
-
-pub read_by : (b : Bool) (v w : ℕ) → Is v ≡ cond b (Is w) Unreadable → (b ≡ true) × (v ≡ w)
-unfolding is_read value_read
-read_by true v w e = (refl, ap value_read e)
-read_by false v w e = absurd (true≢false (ap is_read e))
-
-pub is_read_lem : (xs : Text) (v : ℕ) → Is v ≡ number_in xs → (is_number xs ≡ true) × (v ≡ value_of xs)
-is_read_lem xs v e = read_by (is_number xs) v (value_of xs) e
-
-pub unread_by : (b : Bool) (w : ℕ) → Unreadable ≡ cond b (Is w) Unreadable → b ≡ false
-unfolding is_read
-unread_by true w e = absurd (false≢true (ap is_read e))
+pub unread_by : {A : Type 0} (b : Bool) (w : A) → None ≡ cond b (Some w) None → b ≡ false
+unread_by true w e = absurd (cc)
 unread_by false w e = refl
 
-pub not_read : (xs : Text) → Unreadable ≡ number_in xs → is_number xs ≡ false
-not_read xs e = unread_by (is_number xs) (value_of xs) e
+module _ {S : Type 0} (gives : S → Option (ℕ × Bor Text) → S → Type 0) (it : S) where
+  abbrev seen : ℕ × Bor Text → ℕ × Text
+  seen p = (p.0, p.1.now)
 
-module _ (xs : Text) (numbers : List ℕ) (count at : ℕ) (going : Going xs numbers count at) (more : count < step_width)
-    (end : ℕ) (ends : end ≡ at + before tab (drop at xs)) where
-  abbrev pub here : Text
-  here = take (end - at) (drop at xs)
+  taken_by : (n : ℕ) (rest : List Text) → AlwaysYields gives seen it (enumerate_from n rest) → (p : ℕ × Bor Text) (next : S) → gives it (Some p) next
+      → (others : List Text) × (rest ≡ p.1.now ∷ others) × (p.0 ≡ n) × AlwaysYields gives seen next (enumerate_from (n + 1) others)
+  taken_by n [] y p next g = absurd (y p next g)
+  taken_by n (r ∷ rs) y p next g =
+      let h = y.1 p next g in
+      (rs, ap (λ (q : ℕ × Text). q.1 ∷ rs) (sym h.0), ap (λ (q : ℕ × Text). q.0) h.0, h.1)
 
-  -- the part here and those after it
-  split : end < length xs → parts (drop at xs) ≡ here ∷ parts (drop (end + 1) xs)
-  split h =
-      let k = before tab (drop at xs) in
-      let e : end - at ≡ k = omega arith in
-      let f : at + suc k ≡ end + 1 = omega arith in
-      first_part (drop at xs) (omega (arith, length-drop at xs))
-      ∙ ap₂ (λ (j : ℕ) (z : Text). take j (drop at xs) ∷ parts z) (sym e) (drop-drop (suc k) at xs ∙ ap (λ (j : ℕ). drop j xs) f)
+  none_by : (n : ℕ) (rest : List Text) → AlwaysYields gives seen it (enumerate_from n rest) → (next : S) → gives it None next → rest ≡ []
+  none_by n [] y next g = refl
+  none_by n (r ∷ rs) y next g = absurd (y.0 next g)
 
-  -- or the part here alone
-  alone : end ≡ length xs → parts (drop at xs) ≡ here ∷ []
-  alone h =
-      let d = length-drop at xs in
-      only_part (drop at xs) (omega arith)
-      ∙ ap (λ (z : Text). z ∷ []) (sym (take_all (end - at) (drop at xs) (omega arith)))
+  module _ (xs : Text) (numbers : List ℕ) (going : Going gives it xs numbers) where
+    as_many : length (parts xs) ≡ length going.done + length going.rest
+    as_many =
+        omega
+        (arith, length-map (parts xs) value_of, ap length going.values, length-append going.done (map value_of going.rest), length-map going.rest value_of)
 
-  -- in both cases it is the first
-  first_here : (b : Bool) → leb (length xs) end ≡ b → (rest : List Text) × (parts (drop at xs) ≡ here ∷ rest)
-  first_here true e =
-      let w = before_within tab (drop at xs) in
-      ([], alone (let h = leb-true (length xs) end e in omega (arith, w, length-drop at xs, going.upto)))
-  first_here false e = (parts (drop (end + 1) xs), split (leb-false (length xs) end e))
+    -- no part is left
+    pub said_all : (next : S) → gives it None next → Some numbers ≡ numbers_said xs
+    said_all next g =
+        let over = none_by (length going.done) going.rest going.yields next g in
+        let yes : true ≡ all is_number (parts xs) = ap (all is_number) (sym over) ∙ going.readable in
+        let values : map value_of (parts xs) ≡ going.done =
+        going.values ∙ ap (λ (z : List Text). going.done ++ map value_of z) over ∙ append-nil going.done in
+        let many : length (parts xs) ≤ step_width = omega (arith, as_many, ap length over, going.few) in
+        ap Some (going.filled_up ∙ ap (filled step_width 0) (sym values))
+        ∙ ap (λ (b : Bool). cond b (Some (filled step_width 0 (map value_of (parts xs)))) None) (skip (sym yes) (last (sym (le-leb _ _ many))))
 
-  pub said_no : Unreadable ≡ number_in here → unread ≡ numbers_said xs
-  said_no e =
-      let f = first_here (leb (length xs) end) refl in
-      let no : false ≡ all is_number (parts xs) =
-      ap (λ (b : Bool). b && all is_number f.0) (sym (not_read here e)) ∙ ap (all is_number) (sym f.1) ∙ going.readable in
-      ap
-      (λ (b : Bool). cond (b && (leb (length (parts xs)) step_width && true)) (read_as (filled step_width 0 (map value_of (parts xs)))) unread)
-      no
+    module _ (part : ℕ × Bor Text) (next : S) (g : gives it (Some part) next) where
+      taken : (others : List Text) × (going.rest ≡ part.1.now ∷ others) × (part.0 ≡ length going.done)
+          × AlwaysYields gives seen next (enumerate_from (length going.done + 1) others)
+      taken = taken_by (length going.done) going.rest going.yields part next g
 
-  values_split : (v : ℕ) (rest : List Text) → v ≡ value_of here → parts (drop at xs) ≡ here ∷ rest
-      → map value_of (parts xs) ≡ (going.done ++ v ∷ []) ++ map value_of rest
-  values_split v rest e f =
-      going.values ∙ ap (λ (z : List Text). going.done ++ map value_of z) f
-      ∙ ap (λ (k : ℕ). going.done ++ k ∷ map value_of rest) (sym e)
-      ∙ sym (append_assoc going.done (v ∷ []) (map value_of rest))
+      said_no : (k : ℕ) → get_or (all is_number (parts xs) ∷ leb (length (parts xs)) step_width ∷ []) k true ≡ false → None ≡ numbers_said xs
+      said_no k e =
+          ap (λ (b : Bool). cond b (Some (filled step_width 0 (map value_of (parts xs)))) None)
+          (sym (fails (all is_number (parts xs) ∷ leb (length (parts xs)) step_width ∷ []) k e))
 
-  one_more : (v : ℕ) → set numbers count v ≡ filled step_width 0 (going.done ++ v ∷ [])
-  one_more v =
-      ap₂ (λ (z : List ℕ) (k : ℕ). set z k v) going.filled_up (sym going.as_many)
-      ∙ next_filled going.done v (subst (λ (k : ℕ). k < step_width) (sym going.as_many) more)
+      pub said_too_much : step_width ≤ part.0 → None ≡ numbers_said xs
+      said_too_much h =
+          let t = taken in
+          said_no 1 (lt-leb _ _ (omega (arith, as_many, ap length t.1, t.2)))
 
-  pub turn : (v : ℕ) → Is v ≡ number_in here → end < length xs → Going xs (set numbers count v) (count + 1) (end + 1)
-  turn v e h =
-      let r = is_read_lem here v e in
-      record {
-        done = going.done ++ v ∷ [];
-        upto = omega arith;
-        readable =
-            skip r.0 refl ∙ ap (all is_number) (sym (split h)) ∙ going.readable;
-        values = values_split v (parts (drop (end + 1) xs)) r.1 (split h);
-        as_many = length-append going.done (v ∷ []) ∙ ap (λ (k : ℕ). k + 1) going.as_many;
-        filled_up = one_more v;
-      }
+      pub said_none : None ≡ number_in part.1.now → None ≡ numbers_said xs
+      said_none e =
+          let t = taken in
+          said_no 0
+          (sym going.readable ∙ ap (all is_number) t.1
+          ∙ ap (λ (b : Bool). b && all is_number t.0) (unread_by (is_number part.1.now) (value_of part.1.now) e))
 
-  pub said_all : (v : ℕ) → Is v ≡ number_in here → end ≡ length xs → read_as (set numbers count v) ≡ numbers_said xs
-  said_all v e h =
-      let r = is_read_lem here v e in
-      let yes : true ≡ all is_number (parts xs) = skip r.0 refl ∙ ap (all is_number) (sym (alone h)) ∙ going.readable in
-      let vs : map value_of (parts xs) ≡ going.done ++ v ∷ [] = values_split v [] r.1 (alone h) ∙ append-nil (going.done ++ v ∷ []) in
-      let many : length (parts xs) ≤ step_width =
-      omega (arith, length-map (parts xs) value_of, ap length vs, length-append going.done (v ∷ []), going.as_many) in
-      ap read_as (one_more v ∙ ap (filled step_width 0) (sym vs))
-      ∙ ap (λ (b : Bool). cond b (read_as (filled step_width 0 (map value_of (parts xs)))) unread) (skip (sym yes) (last (sym (le-leb _ _ many))))
-
--- a part stands everywhere
-some_by : (b : Bool) (x : ℕ) (ts : List Text) → 1 ≤ length (cond b ([] ∷ ts) (onto x ts))
-some_by true x ts = omega arith
-some_by false x [] = omega arith
-some_by false x (t ∷ ts) = omega arith
-
-some_part : (t : Text) → 1 ≤ length (parts t)
-some_part [] = omega arith
-some_part (x ∷ xs) = some_by (eqb x tab) x (parts xs)
-
-pub said_too_much : (xs : Text) (numbers : List ℕ) (count at : ℕ) → Going xs numbers count at → step_width ≤ count → unread ≡ numbers_said xs
-said_too_much xs numbers count at going h =
-    let rest = parts (drop at xs) in
-    let many : step_width < length (parts xs) =
-    omega (
-      arith,
-      length-map (parts xs) value_of,
-      ap length going.values,
-      length-append going.done (map value_of rest),
-      length-map rest
-          value_of,
-      some_part (drop at xs),
-      going.as_many,
-    ) in
-    ap
-    (λ (b : Bool). cond b (read_as (filled step_width 0 (map value_of (parts xs)))) unread)
-    (sym (fails (all is_number (parts xs) ∷ leb (length (parts xs)) step_width ∷ []) 1 (lt-leb _ _ many)))
+      pub turn : (v : ℕ) → Some v ≡ number_in part.1.now → part.0 < step_width → Going gives next xs (set numbers part.0 v)
+      turn v e h =
+          let t = taken in
+          let r = read_by (is_number part.1.now) v (value_of part.1.now) e in
+          let long : length (going.done ++ v ∷ []) ≡ length going.done + 1 = length-append going.done (v ∷ []) in
+          record {
+            done = going.done ++ v ∷ [];
+            rest = t.0;
+            few = omega (arith, long, t.2);
+            yields = subst (λ (n : ℕ). AlwaysYields gives seen next (enumerate_from n t.0)) (sym long) t.3;
+            readable = skip r.0 refl ∙ ap (all is_number) (sym t.1) ∙ going.readable;
+            values =
+                going.values ∙ ap (λ (z : List Text). going.done ++ map value_of z) t.1
+                ∙ ap (λ (k : ℕ). going.done ++ k ∷ map value_of t.0) (sym r.1)
+                ∙ sym (append_assoc going.done (v ∷ []) (map value_of t.0));
+            filled_up =
+                ap₂ (λ (z : List ℕ) (k : ℕ). set z k v) going.filled_up t.2
+                ∙ next_filled going.done v (omega (arith, t.2));
+          }
 
 -- the line as a whole
 module _ (l : Text) where
   abbrev numbered : Bool
   numbered = every (all is_number (parts (body l)) ∷ leb (length (parts (body l))) step_width ∷ [])
 
-  pub said_unended : is_ended l ≡ false → unread ≡ step_said l
+  pub said_unended : is_ended l ≡ false → None ≡ step_said l
   unfolding is_step_line
-  said_unended e = ap (λ (b : Bool). cond (b && numbered) (read_as (step_in l)) unread) (sym e)
+  said_unended e = ap (λ (b : Bool). cond (b && numbered) (Some (step_in l)) None) (sym e)
 
-  pub said_ended : is_ended l ≡ true → numbers_said (take (length l - 1 - 0) l) ≡ step_said l
+  pub said_ended : is_ended l ≡ true → (b : Text) → b ≡ body l → numbers_said b ≡ step_said l
   unfolding is_step_line step_in
-  said_ended e =
-      let k : length l - 1 - 0 ≡ length l - 1 = omega arith in
-      ap (λ (j : ℕ). numbers_said (take j l)) k ∙ ap (λ (b : Bool). cond (b && numbered) (read_as (step_in l)) unread) (sym e)
+  said_ended e b is = ap numbers_said is ∙ ap (λ (b : Bool). cond (b && numbered) (Some (step_in l)) None) (sym e)

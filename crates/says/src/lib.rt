@@ -2,92 +2,44 @@
 #![tactic(auto)]
 
 ghost use Rattle.std.specs.Prelude.{◌≡◌};
-ghost use Rattle.says.specs.Says.{answers_said, numbers_said, step_said, unread};
-ghost use Rattle.says.specs.Text.{is_ended};
+ghost use Rattle.says.specs.Says.{IsBody, answers_said, numbers_said, step_said};
 
-use lines::bytes::{LINE_FEED, TAB, next_at};
-use numbers::{Number, read_number};
+use lines::bytes::{LINE_FEED, TAB};
+use numbers::read_number;
+use rules::steps::STEP_WIDTH;
 
-pub const STEP_WIDTH: usize = 7;
-
-// The seven numbers of a step, where the line is readable; else zeros.
-#[derive(Clone, Copy)]
-pub struct StepSaid {
-    pub readable: bool,
-    pub numbers: [u16; STEP_WIDTH],
-}
-
-fn unreadable() -> StepSaid
-    ensures { result ≡ unread }
+// A line without its line feed; none where it has none.
+fn body(line: &[u8]) -> Option<&[u8]>
+    ensures { IsBody line.now result }
 {
-    StepSaid {
-        readable: false,
-        numbers: [0u16; STEP_WIDTH],
-    }
-}
-
-fn is_ended(line: &[u8]) -> bool
-    ensures { result ≡ is_ended line.now }
-{
-    if line.len() < 1 {
-        return false;
-    }
-    line[line.len() - 1] == LINE_FEED
+    line.strip_suffix(&[LINE_FEED])
 }
 
 // Line 1.
-pub fn answers_said(line: &[u8]) -> Number
+pub fn answers_said(line: &[u8]) -> Option<u16>
     ensures { result ≡ answers_said line.now }
 {
-    if !is_ended(line) {
-        return Number::Unreadable;
-    }
-    let end = line.len() - 1;
-    if end < 2 {
-        return Number::Unreadable;
-    }
-    if line[0] != b'A' {
-        return Number::Unreadable;
-    }
-    if line[1] != TAB {
-        return Number::Unreadable;
-    }
-    read_number(&line[2..end])
+    let digits = body(line)?.strip_prefix(&[b'A', TAB])?;
+    read_number(digits)
 }
 
-// The numbers between the tabs of a line without its line feed.
-fn numbers_said(body: &[u8]) -> StepSaid
+// The numbers between the tabs of a line without its line feed; those left off are 0.
+fn numbers_said(body: &[u8]) -> Option<[u16; STEP_WIDTH]>
     ensures { result ≡ numbers_said body.now }
 {
-    let mut numbers = [0u16; STEP_WIDTH];
-    let mut count = 0;
-    let mut at = 0;
-    while count < STEP_WIDTH {
-        let end = next_at(body, at, TAB);
-        let read = read_number(&body[at..end]);
-        let Number::Is(value) = read else {
-            return unreadable();
-        };
-        numbers[count] = value;
-        if end == body.len() {
-            return StepSaid {
-                readable: true,
-                numbers,
-            };
+    let mut numbers = [0; STEP_WIDTH];
+    for (i, part) in body.split(|byte| *byte == TAB).enumerate() {
+        if STEP_WIDTH <= i {
+            return None;
         }
-        count += 1;
-        at = end + 1;
+        numbers[i] = read_number(part)?;
     }
-    unreadable()
+    Some(numbers)
 }
 
 // Every other line.
-pub fn step_said(line: &[u8]) -> StepSaid
+pub fn step_said(line: &[u8]) -> Option<[u16; STEP_WIDTH]>
     ensures { result ≡ step_said line.now }
 {
-    if !is_ended(line) {
-        return unreadable();
-    }
-    let end = line.len() - 1;
-    numbers_said(&line[0..end])
+    numbers_said(body(line)?)
 }

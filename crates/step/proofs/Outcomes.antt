@@ -18,17 +18,32 @@ use Rattle.messages.proofs.Picks.{no, yes}
 use Rattle.step.specs.Answer.{Answered}
 use Rattle.step.specs.Decided.{decided}
 use Rattle.deeds.specs.Coded.{added_in, allowed_in}
-use Rattle.faults.specs.Faults.{faults}
+use Rattle.faults.specs.Faults.{faults, fine}
 use Rattle.arguments.specs.Ready.{Known, Ready}
-use Rattle.step.specs.declared.judge.Answer.TheVariants.{Refused}
+use Rattle.std.specs.Prelude.{Err}
+use Rattle.refusals.specs.Numbers.{refusal_number}
+use Rattle.refusals.specs.declared.Refusal.{Refusal}
+use Rattle.rules.specs.declared.codes.Argument.{Argument}
 
 -- the answer by the outcome
-pub refuses : (n : ℕ) (t : List ℕ) {o : Outcome} {k : ℕ} → o ≡ refused k → Answered n t o (Refused k) t
-refuses n t {o} {k} e =
-    subst (λ (x : Outcome). Answered n t x (Refused k) t) (sym e) (record { number = refl; place = refl; table = refl; small = zero-le })
+pub refuses : (n : ℕ) (t : List ℕ) {o : Outcome} (e : Refusal) → o ≡ refused (refusal_number e) → Answered n t o (Err e) t
+refuses n t {o} e p =
+    subst (λ (x : Outcome). Answered n t x (Err e) t) (sym p) (record { number = refl; place = refl; table = refl; small = zero-le })
 
--- three gates: a number is given by the first that is shut, and 9 only where all stand open
-shut : (a b c : Bool) (o : Outcome) → (three a b c ≡ 9 → ⊥)
+-- no refusal has the number that stands for none
+pub not_fine : (e : Refusal) → refusal_number e ≡ fine → ⊥
+not_fine Refusal.Record p = absurd (omega arith)
+not_fine Refusal.Code p = absurd (omega arith)
+not_fine Refusal.Argument p = absurd (omega arith)
+not_fine Refusal.Place p = absurd (omega arith)
+not_fine Refusal.Item p = absurd (omega arith)
+not_fine Refusal.Condition p = absurd (omega arith)
+not_fine Refusal.Room p = absurd (omega arith)
+not_fine Refusal.Steps p = absurd (omega arith)
+not_fine Refusal.Verdicts p = absurd (omega arith)
+
+-- three gates: a number is given by the first that is shut, and `fine` only where all stand open
+shut : (a b c : Bool) (o : Outcome) → (three a b c ≡ fine → ⊥)
     → cond a (cond b (cond c o (refused 5)) (refused 4)) (refused 3) ≡ refused (three a b c)
 unfolding three
 shut false b c o h = refl
@@ -36,7 +51,7 @@ shut true false c o h = refl
 shut true true false o h = refl
 shut true true true o h = absurd (h refl)
 
-all_open : (a b c : Bool) → three a b c ≡ 9 → (a ≡ true) × (b ≡ true) × (c ≡ true)
+all_open : (a b c : Bool) → three a b c ≡ fine → (a ≡ true) × (b ≡ true) × (c ≡ true)
 unfolding three
 all_open false b c e = absurd (omega arith)
 all_open true false c e = absurd (omega arith)
@@ -76,20 +91,20 @@ module _ (answers n : ℕ) (t s : List ℕ) where
   unknown e = unfolded ∙ sym (no _ e refl)
 
   module _ (k : known (code_of s) ≡ true) where
-    pub faulty : (f : ℕ) → f ≡ faults n (messages n t) (row_of (code_of s)).takes (arguments_of s) → (f ≡ 9 → ⊥)
+    pub faulty : (f : ℕ) → f ≡ faults n (messages n t) (row_of (code_of s)).takes (arguments_of s) → (f ≡ fine → ⊥)
         → judge answers (room_of t) (messages n t) s ≡ refused f
     unfolding outcome ranged placed_in held three
     faulty f e h =
         unfolded ∙ sym (yes _ k refl)
-        ∙ shut ranged (placed_in n) held (decided answers n t s) (λ (z : three ranged (placed_in n) held ≡ 9). h (e ∙ z))
+        ∙ shut ranged (placed_in n) held (decided answers n t s) (λ (z : three ranged (placed_in n) held ≡ fine). h (e ∙ z))
         ∙ ap refused (sym e)
 
-    module _ (fine : 9 ≡ faults n (messages n t) (row_of (code_of s)).takes (arguments_of s)) where
+    module _ (passed : fine ≡ faults n (messages n t) (row_of (code_of s)).takes (arguments_of s)) where
       opened : (ranged ≡ true) × (placed_in n ≡ true) × (held ≡ true)
       unfolding ranged placed_in held three
-      opened = all_open ranged (placed_in n) held (sym fine)
+      opened = all_open ranged (placed_in n) held (sym passed)
 
-      pub ready : {row : List ℕ} → Known row s → n * message_width ≤ length t → Ready n t row s
+      pub ready : {row : List Argument} → Known row s → n * message_width ≤ length t → Ready n t row s
       unfolding placed_in
       ready w h = record { known = w; room = h; places = opened.1 }
 

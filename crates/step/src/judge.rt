@@ -1,68 +1,63 @@
 // One step: judged against a record that is known to be lawful, as in a run, and against any table, where refusal 1 comes first.
 ghost use Rattle.std.specs.Prelude.{true, ◌≡◌, ◌≤◌, length};
-ghost use Rattle.arguments.specs.Lent.{table_letters};
 ghost use Rattle.arguments.specs.Ready.{Ready};
 ghost use Rattle.record.specs.Table.{messages, room_of, whole};
 ghost use Rattle.rules.specs.Step.{judge as judge_of, judge_table};
 ghost use Rattle.step.specs.Answer.{Answered};
 ghost use Rattle.step.specs.Decided.{decided};
 
-use arguments::codes::{all_rows, is_known, row_of};
+use arguments::codes::{is_known, row_of};
 use deeds::{added, is_allowed};
-use faults::{FINE, first_fault};
+use faults::first_fault;
 use messages::parts::Place;
 use record::table::{is_lawful_record, room, write};
+use refusals::Refusal;
+use rules::codes::Argument;
+use rules::steps::STEP_WIDTH;
 
-// What a step answers: the place of the message that it added, or the number of the refusal.
-#[derive(Clone, Copy)]
-pub enum Answer {
-    Accepted(Place),
-    Refused(u8),
-}
-
-// A step whose arguments are good: its condition, the room, and then the message. Both tests are made before either is answered.
-fn decide(t: &mut [u16], n: usize, answers: u16, row: &[u8], s: &[u16]) -> Answer
+// A step whose arguments are good: its condition, the room, and then the message.
+fn decide(
+    t: &mut [u16],
+    n: usize,
+    answers: u16,
+    row: &[Argument],
+    s: &[u16],
+) -> Result<Place, Refusal>
     requires { (whole t.old ≡ true) × Ready n t.old row.now s.now }
     ensures { Answered n t.old (decided answers n t.old s.now) result t.new }
 {
-    let barred = !is_allowed(t, s);
-    let full = room(t) <= n;
-    if barred {
-        return Answer::Refused(6);
+    if !is_allowed(t, s) {
+        return Err(Refusal::Condition);
     }
-    if full {
-        return Answer::Refused(7);
+    if room(t) <= n {
+        return Err(Refusal::Room);
     }
     let m = added(t, n, answers, row, s);
     write(t, n, &m);
-    Answer::Accepted(Place(n + 1))
+    Ok(Place(n + 1))
 }
 
-// A step of seven numbers against the first n messages of a table of whole messages, which are not looked through; the rows of all codes
-// are lent.
-pub fn judge_step(t: &mut [u16], n: usize, answers: u16, rows: &[u8], s: &[u16]) -> Answer
-    requires { (whole t.old ≡ true) × (n ≤ room_of t.old) × (rows.now ≡ table_letters) × (length s.now ≡ 7) }
+// A step of seven numbers against the first n messages of a table of whole messages, which are not looked through. The answer is the place of
+// the message that it added.
+pub fn judge_step(t: &mut [u16], n: usize, answers: u16, s: &[u16]) -> Result<Place, Refusal>
+    requires { (whole t.old ≡ true) × (n ≤ room_of t.old) × (length s.now ≡ 7) }
     ensures { Answered n t.old (judge_of answers (room_of t.old) (messages n t.old) s.now) result t.new }
 {
     let code = s[0];
     if !is_known(code) {
-        return Answer::Refused(2);
+        return Err(Refusal::Code);
     }
-    let row = row_of(rows, code as usize);
-    let found = first_fault(t, n, row, s);
-    if found != FINE {
-        return Answer::Refused(found);
-    }
+    let row = row_of(code as usize);
+    first_fault(t, n, row, s)?;
     decide(t, n, answers, row, s)
 }
 
 // A step against any table and count.
-pub fn step(t: &mut [u16], n: usize, answers: u16, s: [u16; 7]) -> Answer
+pub fn step(t: &mut [u16], n: usize, answers: u16, s: [u16; STEP_WIDTH]) -> Result<Place, Refusal>
     ensures { Answered n t.old (judge_table answers n t.old s) result t.new }
 {
     if !is_lawful_record(t, n) {
-        return Answer::Refused(1);
+        return Err(Refusal::Record);
     }
-    let rows = all_rows();
-    judge_step(t, n, answers, &rows, &s)
+    judge_step(t, n, answers, &s)
 }

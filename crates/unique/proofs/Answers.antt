@@ -2,38 +2,41 @@
 use Prim.Native.Nat.{ℕ}
 use mathlib.Core.Bool.{Bool, true, false, true≢false, false≢true}
 use mathlib.Core.List.{List}
-use mathlib.Core.Path.{◌≡◌, ◌∙◌, refl, sym, ap, ap₂}
+use mathlib.Core.Path.{◌≡◌, ◌∙◌, refl, sym, ap}
 use native.Mathlib.Omega.{arith}
 use Rattle.record.specs.Table.{lawful_record, messages, room_of}
 use Rattle.rules.specs.Step.{Outcome, accepted, judge, judge_table, number_of, place_of, refused}
 use Rattle.runs.specs.Ran.{is_refused, ran_count, ran_number}
-use Rattle.runs.specs.declared.run.Ran.{Ran}
-use Rattle.runs.specs.declared.run.Ran.TheVariants.{Messages, Refused as RunRefused}
 use Rattle.rules.proofs.Accepted.{never_zero}
 use Rattle.step.proofs.Outcomes.{lawful_judged, unlawful}
 use Rattle.step.specs.Answer.{Answered, answer_number, answer_place}
-use Rattle.step.specs.declared.judge.Answer.{Answer}
-use Rattle.step.specs.declared.judge.Answer.TheVariants.{Accepted, Refused}
 use Rattle.steptext.specs.Told.{text_answers, text_count, text_line, text_number}
-use Rattle.steptext.specs.declared.read.TextRead.{TextRead}
-use Rattle.steptext.specs.declared.read.TextRead.TheVariants.{Says, TooLong, Unreadable}
-use Rattle.unique.specs.Unique.{JudgeUnique, PlayUnique, PlayedUnique, RunUnique, StepUnique, TextUnique}
+use Rattle.steptext.specs.declared.told.Said.{Said}
+use Rattle.steptext.specs.declared.told.TextRefusal.{TextRefusal}
+use Rattle.steptext.specs.declared.told.TextRefusal.TheVariants.{TooLong, Unreadable}
+use Rattle.std.specs.Prelude.{Err, Ok, Result}
+use Rattle.messages.specs.declared.parts.Place.{Place}
+use Rattle.refusals.proofs.Numbers.{numbers_apart}
+use Rattle.refusals.specs.declared.Refusal.{Refusal}
+use Rattle.reports.proofs.Numbers.{reports_apart, verdicts_apart}
+use Rattle.step.proofs.Outcomes.{not_fine}
+use Rattle.unique.specs.Unique.{FaultUnique, JudgeUnique, PlayUnique, PlayedUnique, ReportOnUnique, ReportUnique, RunUnique, StepUnique, TextUnique}
 
 -- a refused step is told from an accepted one by its place
 not_both : (n : ℕ) (o : Outcome) → (o ≡ refused 0 → ⊥) → 0 ≡ number_of o → 0 ≡ place_of n o → ⊥
 not_both n (accepted x) h e f = omega arith
 not_both n (refused k) h e f = h (ap refused (sym e))
 
-same_answer : (n : ℕ) (o : Outcome) → (o ≡ refused 0 → ⊥) → (r r' : Answer) → answer_number r ≡ number_of o → answer_place r ≡ place_of n o
-    → answer_number r' ≡ number_of o → answer_place r' ≡ place_of n o → r ≡ r'
-same_answer n o h (Accepted p) (Accepted p') e f e' f' = λ i. Accepted (record { 0 = (f ∙ sym f') i })
-same_answer n o h (Accepted p) (Refused k) e f e' f' = absurd (not_both n o h e f')
-same_answer n o h (Refused k) (Accepted p) e f e' f' = absurd (not_both n o h e' f)
-same_answer n o h (Refused k) (Refused k') e f e' f' = ap Refused (e ∙ sym e')
+same_answer : (n : ℕ) (o : Outcome) → (o ≡ refused 0 → ⊥) → (r r' : Result Place Refusal) → answer_number r ≡ number_of o
+    → answer_place r ≡ place_of n o → answer_number r' ≡ number_of o → answer_place r' ≡ place_of n o → r ≡ r'
+same_answer n o h (Ok p) (Ok p') e f e' f' = λ i. Ok (record { 0 = (f ∙ sym f') i })
+same_answer n o h (Ok p) (Err k) e f e' f' = absurd (not_both n o h e f')
+same_answer n o h (Err k) (Ok p) e f e' f' = absurd (not_both n o h e' f)
+same_answer n o h (Err k) (Err k') e f e' f' = ap Err (numbers_apart k k' (e ∙ sym e'))
 
 -- of any outcome that is not refused with 0
 module _ (n : ℕ) (t : List ℕ) (o : Outcome) (h : o ≡ refused 0 → ⊥) where
-  answered_same : (r r' : Answer) (left left' : List ℕ) → Answered n t o r left → Answered n t o r' left' → (r ≡ r') × (left ≡ left')
+  answered_same : (r r' : Result Place Refusal) (left left' : List ℕ) → Answered n t o r left → Answered n t o r' left' → (r ≡ r') × (left ≡ left')
   answered_same r r' left left' w w' =
       (same_answer n o h r r' w.number w.place w'.number w'.place, w.table ∙ sym w'.table)
 
@@ -49,22 +52,35 @@ step_unique answers n t s = answered_same n t (judge_table answers n t s) (never
 pub judge_unique : JudgeUnique
 judge_unique answers n t s = answered_same n t (judge answers (room_of t) (messages n t) s) (never_zero answers (room_of t) (messages n t) s)
 
-same_ran : (r r' : Ran) → ran_number r ≡ ran_number r' → ran_count r ≡ ran_count r' → is_refused r ≡ is_refused r' → r ≡ r'
-same_ran (Messages n) (Messages n') e f g = ap Messages f
-same_ran (Messages n) (RunRefused k) e f g = absurd (false≢true g)
-same_ran (RunRefused k) (Messages n) e f g = absurd (true≢false g)
-same_ran (RunRefused k) (RunRefused k') e f g = ap RunRefused e
+same_ran : (r r' : Result ℕ Refusal) → ran_number r ≡ ran_number r' → ran_count r ≡ ran_count r' → is_refused r ≡ is_refused r' → r ≡ r'
+same_ran (Ok n) (Ok n') e f g = ap Ok f
+same_ran (Ok n) (Err k) e f g = absurd (false≢true g)
+same_ran (Err k) (Ok n) e f g = absurd (true≢false g)
+same_ran (Err k) (Err k') e f g = ap Err (numbers_apart k k' e)
 
-same_read : (r r' : TextRead) → text_number r ≡ text_number r' → text_answers r ≡ text_answers r' → text_count r ≡ text_count r' → text_line r ≡ text_line r' → r ≡ r'
-same_read (Says a n) (Says a' n') e f g h = ap₂ Says f g
-same_read (Says a n) (Unreadable l) e f g h = absurd (omega arith)
-same_read (Says a n) TooLong e f g h = absurd (omega arith)
-same_read (Unreadable l) (Says a n) e f g h = absurd (omega arith)
-same_read (Unreadable l) (Unreadable l') e f g h = ap Unreadable h
-same_read (Unreadable l) TooLong e f g h = absurd (omega arith)
-same_read TooLong (Says a n) e f g h = absurd (omega arith)
-same_read TooLong (Unreadable l) e f g h = absurd (omega arith)
-same_read TooLong TooLong e f g h = refl
+same_read : (r r' : Result Said TextRefusal) → text_number r ≡ text_number r' → text_answers r ≡ text_answers r' → text_count r ≡ text_count r'
+    → text_line r ≡ text_line r' → r ≡ r'
+same_read (Ok s) (Ok s') e f g h = λ i. Ok (record { answers = f i; count = g i })
+same_read (Ok s) (Err (Unreadable l)) e f g h = absurd (omega arith)
+same_read (Ok s) (Err TooLong) e f g h = absurd (omega arith)
+same_read (Err (Unreadable l)) (Ok s) e f g h = absurd (omega arith)
+same_read (Err (Unreadable l)) (Err (Unreadable l')) e f g h = λ i. Err (Unreadable (h i))
+same_read (Err (Unreadable l)) (Err TooLong) e f g h = absurd (omega arith)
+same_read (Err TooLong) (Ok s) e f g h = absurd (omega arith)
+same_read (Err TooLong) (Err (Unreadable l)) e f g h = absurd (omega arith)
+same_read (Err TooLong) (Err TooLong) e f g h = refl
+
+pub report_unique : ReportUnique
+report_unique n t p r r' e e' = reports_apart r r' (e ∙ sym e')
+
+pub report_on_unique : ReportOnUnique
+report_on_unique R x r r' e e' = verdicts_apart r r' (e ∙ sym e')
+
+pub fault_unique : FaultUnique
+fault_unique k (Ok u) (Ok u') e e' = refl
+fault_unique k (Ok u) (Err f) e e' = absurd (not_fine f (e' ∙ sym e))
+fault_unique k (Err f) (Ok u) e e' = absurd (not_fine f (e ∙ sym e'))
+fault_unique k (Err f) (Err f') e e' = ap Err (numbers_apart f f' (e ∙ sym e'))
 
 pub run_unique : RunUnique
 run_unique answers t xs bytes r r' table table' verdicts verdicts' w w' = (

@@ -1,7 +1,8 @@
 -- `deeds::added` meets its promise.
 use Rattle.std.proofs.Common.{ℕ, ◌+◌, ◌<◌, get_or, refl, sym, ap, ap₂, ◌∙◌, arith}
 use Rattle.record.proofs.Cut.{length_cut}
-use Rattle.messages.specs.Layout.{AuthRequest, AuthResponse, Initiate, Invoice, Payment, message_width}
+use Rattle.messages.specs.Layout.{message_width}
+use Rattle.messages.specs.declared.kind.Kind.TheVariants.{AuthRequest, AuthResponse, Initiate, Invoice, Payment}
 use Rattle.rules.specs.Codes.{forges}
 use Rattle.rules.specs.Honest.{asked, false_gateway, house, invoiced, paid, replied, started}
 use Rattle.rules.specs.Step.{code_of}

@@ -1,84 +1,72 @@
 -- `faults::first_fault` meets its promise.
-use Prim.Native.Nat.{◌+◌, ◌≤◌, min, ℕ}
+use Prim.Native.Nat.{◌+◌, ◌≤◌, ℕ}
 use lib.ListN.{get_or}
-use mathlib.Core.Path.{◌∙◌, ◌≡◌, refl, subst, sym}
+use mathlib.Core.List.{List}
+use mathlib.Core.Path.{◌∙◌, ◌≡◌, ap, subst, sym}
 use native.Mathlib.Omega.{arith}
-use Rattle.messages.proofs.Picks.{no, yes}
+use Rattle.std.proofs.Common.{false, rules, true}
+use Rattle.faults.proofs.Ends.{ended, zeros_from}
 use Rattle.record.specs.Table.{messages}
-use Rattle.rules.specs.Codes.{Argument, row_of}
-use Rattle.rules.specs.Step.{code_of}
-use Rattle.faults.proofs.Ends.{ended}
-use Rattle.faults.proofs.Lowest.{fault_least, none_left, three_found, turn}
-use Rattle.arguments.proofs.Takes.{letter_at, six_letters}
+use Rattle.rules.specs.Step.{arguments_of}
+use Rattle.rules.specs.declared.codes.Argument.{Argument}
+use Rattle.rules.specs.declared.codes.Argument.TheVariants.{Unused}
+use Rattle.faults.proofs.Lowest.{fault_least, three_found, turn}
+use Rattle.faults.specs.Faults.{fault_number, fault_of, faults}
+use Rattle.arguments.proofs.Takes.{argument_at, six_arguments, six_in_row}
 use Rattle.faults.proofs.first_fault.Goals as goal
-use Rattle.faults.proofs.first_fault.Goals.{then-found-first, else-found-first}
 
-start : (x : ℕ) → x ≤ 9 → min 9 x ≡ x
-start x l = omega arith
+pub slice_bounds-are_zeros-count : goal.slice_bounds-are_zeros-count
+slice_bounds-are_zeros-count c = omega (arith, c.requires.1.seven, six_in_row c.requires.1)
 
-pub returns-then-not-all_unused : goal.returns-then-not-all_unused
-returns-then-not-all_unused c =
-    let the_if1 = c.if-letter-eq-UNUSED in
-    let the_loop_test = c.loop-i-test in
-    let the_loop = c.loop-i in
-    let the_pre = c.requires in
-    let the_args = c.args in
-    no {b = c.all_unused.result} the_loop.first c.if-not-all_unused.true refl
-    ∙ ended the_args.n (messages the_args.n the_args.t.now) the_pre.1 the_loop.i the_loop.first
-    c.all_unused.result the_loop_test.true the_if1.true c.all_unused.ensures (omega (arith, the_loop.invariant.1))
-    the_loop.invariant.2 the_loop.invariant.3
+pub slice_bounds-are_zeros-start : goal.slice_bounds-are_zeros-start
+slice_bounds-are_zeros-start c = omega (arith, c.requires.1.seven, six_in_row c.requires.1)
 
-pub returns-then-letter-eq-UNUSED : goal.returns-then-letter-eq-UNUSED
-returns-then-letter-eq-UNUSED c =
-    let the_if1 = c.if-letter-eq-UNUSED in
-    let the_loop_test = c.loop-i-test in
-    let the_loop = c.loop-i in
-    let the_pre = c.requires in
-    let the_args = c.args in
-    yes {b = c.all_unused.result} 3 c.if-not-all_unused.false refl
-    ∙ ended the_args.n (messages the_args.n the_args.t.now) the_pre.1 the_loop.i the_loop.first
-    c.all_unused.result the_loop_test.true the_if1.true c.all_unused.ensures (omega (arith, the_loop.invariant.1))
-    the_loop.invariant.2 the_loop.invariant.3
+pub returns-then-are_zeros : goal.returns-then-are_zeros
+returns-then-are_zeros c =
+    let unused : get_or c.args.row.now c.loop-i.i Unused ≡ Unused = search rules in
+    ended c.args.n (messages c.args.n c.args.t.now) c.requires.1 c.loop-i.i (fault_number c.loop-i.first) true c.loop-i-test.true unused
+    (c.if-are_zeros.ensures ∙ zeros_from c.args.s.now c.loop-i.i) (omega (arith, c.loop-i.invariant.0)) c.loop-i.invariant.1 c.loop-i.invariant.2
 
-pub returns-then-found-eq3 : goal.returns-then-found-eq3
-returns-then-found-eq3 c =
-    let the_loop_test = c.loop-i-test in
-    let the_loop = c.loop-i in
-    let the_pre = c.requires in
-    let the_args = c.args in
-    three_found the_args.n (messages the_args.n the_args.t.now) the_pre.1 the_loop.i c.fault-found.result
-    the_loop.first the_loop_test.true
-    (c.fault-found.ensures (get_or (row_of (code_of the_args.s.now)).takes the_loop.i Argument.unused)
-    (sym (letter_at the_pre.1 the_loop.i the_loop_test.true))) the_loop.invariant.3 c.if-found-eq3.true (omega (arith, the_loop.invariant.1))
+pub returns-else-are_zeros : goal.returns-else-are_zeros
+returns-else-are_zeros c =
+    let unused : get_or c.args.row.now c.loop-i.i Unused ≡ Unused = search rules in
+    ended c.args.n (messages c.args.n c.args.t.now) c.requires.1 c.loop-i.i (fault_number c.loop-i.first) false c.loop-i-test.true unused
+    (c.if-are_zeros.ensures ∙ zeros_from c.args.s.now c.loop-i.i) (omega (arith, c.loop-i.invariant.0)) c.loop-i.invariant.1 c.loop-i.invariant.2
+
+pub bounds-s-i : goal.bounds-s-i
+bounds-s-i c = omega (arith, c.requires.1.seven, six_in_row c.requires.1)
+
+pub returns-then-eq-2 : goal.returns-then-eq-2
+returns-then-eq-2 c =
+    let n = c.args.n in
+    let R = messages n c.args.t.now in
+    let row = c.args.row.now in
+    let s = c.args.s.now in
+    let i = c.loop-i.i in
+    let known = c.requires.1 in
+    let three : fault_number c.fault-found.result ≡ 3 = search rules in
+    three
+    ∙ three_found n R row (arguments_of s) i (fault_number c.fault-found.result) (fault_number c.loop-i.first) (faults n R row (arguments_of s))
+    c.loop-i-test.true (omega (arith, six_in_row known, six_arguments s known.seven))
+    (c.fault-found.ensures ∙ ap (fault_of n R (get_or row i Unused)) (sym (argument_at s i))) c.loop-i.invariant.2 three
+    (omega (arith, c.loop-i.invariant.0))
+    ∙ ap (λ (ks : List Argument). faults n R ks (arguments_of s)) known.its_row
 
 pub loop-i-preserved : goal.loop-i-preserved
 loop-i-preserved c =
-    let the_fault = c.fault-found in
-    let the_loop_test = c.loop-i-test in
-    let the_loop = c.loop-i in
-    let the_pre = c.requires in
-    let the_args = c.args in
-    let told = (the_fault.ensures (get_or (row_of (code_of the_args.s.now)).takes the_loop.i Argument.unused)
-    (sym (letter_at the_pre.1 the_loop.i the_loop_test.true))) in
-    let least : 3 ≤ the_fault.result = subst (λ (x : ℕ). 3 ≤ x) (sym told)
-    (fault_least the_args.n (messages the_args.n the_args.t.now)
-    (get_or (row_of (code_of the_args.s.now)).takes the_loop.i Argument.unused) (get_or the_args.s.now (the_loop.i + 1) 0)) in
-    let e : c.if-found-first.first ≡ min the_loop.first the_fault.result =
-    let low = the_loop.invariant.1 in elim c.if-found-first.branch [ then-found-first w ↦ omega arith | else-found-first w ↦ omega arith ] in (
-      omega arith,
-      omega (arith, e, least, c.if-found-eq3.false, the_loop.invariant.1),
-      omega (arith, e, the_loop.invariant.2),
-      turn the_args.n
-          (messages the_args.n the_args.t.now) the_pre.1 the_loop.i the_fault.result the_loop.first c.if-found-first.first
-          the_loop_test.true told the_loop.invariant.3 e,
+    let n = c.args.n in
+    let R = messages n c.args.t.now in
+    let row = c.args.row.now in
+    let s = c.args.s.now in
+    let i = c.loop-i.i in
+    let known = c.requires.1 in
+    let found = fault_number c.fault-found.result in
+    let not_three : found ≡ 3 → ⊥ = search rules in
+    let least : 3 ≤ found = subst (λ (x : ℕ). 3 ≤ x) (sym c.fault-found.ensures) (fault_least n R (get_or row i Unused) (get_or s (i + 1) 0)) in
+    let low = c.lower-first.ensures in (
+      omega (arith, low, least, not_three, c.loop-i.invariant.0),
+      omega (arith, low, c.loop-i.invariant.1),
+      turn n R row (arguments_of s) i found (fault_number c.loop-i.first) (fault_number c.lower-first.result) (faults n R row (arguments_of s))
+          c.loop-i-test.true (omega (arith, six_in_row known, six_arguments s known.seven))
+          (c.fault-found.ensures ∙ ap (fault_of n R (get_or row i Unused)) (sym (argument_at s i))) c.loop-i.invariant.2 low,
     )
-
-pub returns : goal.returns
-returns c =
-    let the_pre = c.requires in
-    let the_args = c.args in
-    none_left the_args.n (messages the_args.n the_args.t.now) the_pre.1 c.loop-i.i c.loop-i.first
-    (omega arith) c.loop-i.invariant.2 c.loop-i.invariant.3
-
-pub bounds-row-i : goal.bounds-row-i
-bounds-row-i c = omega (arith, six_letters c.requires.1)

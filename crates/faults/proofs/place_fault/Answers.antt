@@ -1,40 +1,34 @@
 -- `faults::place_fault` meets its promise.
-use mathlib.Core.Bool.{Bool}
-use mathlib.Core.List.{List}
-use mathlib.Core.Path.{◌∙◌, ◌≡◌, ap, refl, sym}
-use Prim.Native.Nat.{◌≤◌, ℕ}
-use Rattle.record.proofs.Cut.{message_at_lem}
-use Rattle.messages.proofs.Chain.{failed, held, inside}
+use Rattle.std.proofs.Common.{rules, ◌≡◌, ◌∙◌, ap, Bool, cond, false, List, ℕ, refl, sym, true}
+use Rattle.messages.proofs.Chain.{bounds}
 use Rattle.messages.proofs.Picks.{no, yes}
 use Rattle.messages.specs.Parts.{Message}
-use Rattle.record.specs.Table.{message_at, message_in, messages}
-use Rattle.rules.specs.Codes.{Argument}
-use Rattle.arguments.specs.Letters.{argument_lettered, offers}
+use Rattle.messages.specs.Tests.{between}
+use Rattle.record.proofs.Cut.{message_at_lem}
+use Rattle.record.specs.Table.{message_in, messages}
+use Rattle.rules.specs.declared.codes.Argument.{Argument}
+use Rattle.arguments.specs.Offers.{offers}
+use Rattle.faults.specs.Faults.{fine, place_fault}
 use Rattle.faults.proofs.place_fault.Goals as goal
 
--- what the message in the table offers, the one at its place of the record offers
-there : (n : ℕ) (t : List ℕ) (k : Argument) (x : ℕ) {m : Message} {b : Bool} → 1 ≤ x → x ≤ n → m ≡ message_in t (record { 0 = x })
-    → offers k m ≡ b → offers k (message_at (messages n t) (record { 0 = x })) ≡ b
-there n t k x l h e p = ap (offers k) (message_at_lem n t (record { 0 = x }) l h ∙ sym e) ∙ p
+-- at a place of the record what the message in the table offers tells
+there : (n : ℕ) (t : List ℕ) (k : Argument) (x : ℕ) {m : Message} {b : Bool} → between 1 x n ≡ true → m ≡ message_in t (record { 0 = x })
+    → b ≡ offers k m → cond b fine 5 ≡ place_fault n (messages n t) k x
+there n t k x {b = b} i e p =
+    let at = message_at_lem n t (record { 0 = x }) (bounds 1 x n i).0 (bounds 1 x n i).1 in
+    yes _ i (ap (λ (y : Bool). cond y fine 5) (p ∙ ap (offers k) (e ∙ sym at)))
+
+pub returns-then-not-contains : goal.returns-then-not-contains
+returns-then-not-contains c =
+    let out : between 1 c.args.x c.args.n ≡ false = search rules in
+    no _ out refl
 
 pub returns-then-not-yields : goal.returns-then-not-yields
 returns-then-not-yields c =
-    let the_message = c.message in
-    let the_if2 = c.if-n-p in
-    let the_if1 = c.if-p-lt1 in
-    let the_args = c.args in
-    let told = failed c.yields.ensures c.if-not-yields.true in
-    yes _ (inside the_if1.false the_if2.false)
-    (no _ (there the_args.n the_args.t.now (argument_lettered the_args.letter) the_args.x the_if1.false the_if2.false
-    the_message.ensures.0 told) refl)
+    let within : between 1 c.args.x c.args.n ≡ true = search rules in
+    there c.args.n c.args.t.now c.args.argument c.args.x within c.message.ensures.0 c.if-not-yields.ensures
 
 pub returns : goal.returns
 returns c =
-    let the_message = c.message in
-    let the_if2 = c.if-n-p in
-    let the_if1 = c.if-p-lt1 in
-    let the_args = c.args in
-    let told = held c.yields.ensures c.if-not-yields.false in
-    yes _ (inside the_if1.false the_if2.false)
-    (yes _ (there the_args.n the_args.t.now (argument_lettered the_args.letter) the_args.x the_if1.false the_if2.false
-    the_message.ensures.0 told) refl)
+    let within : between 1 c.args.x c.args.n ≡ true = search rules in
+    there c.args.n c.args.t.now c.args.argument c.args.x within c.message.ensures.0 c.if-not-yields.ensures

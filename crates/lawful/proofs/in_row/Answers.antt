@@ -1,6 +1,5 @@
--- `lawful::in_row` meets its promise. The loop's invariant: what is asked so far and what is left of the row and of the message
--- are together what is asked of the whole.
-use Prim.Native.Nat.{◌*◌, ◌+◌, ◌<◌, ℕ}
+-- `lawful::in_row` meets its promise.
+use Prim.Native.Nat.{◌+◌, ◌<◌, ℕ}
 use lib.ListN.{drop, get_or, length}
 use lib.Seq.{drop-cons}
 use mathlib.Core.Bool.{Bool, ◌&&◌, and_assoc}
@@ -8,13 +7,12 @@ use mathlib.Core.List.{List, []}
 use mathlib.Core.Path.{◌∙◌, ◌≡◌, ap, ap₂, subst, sym}
 use native.Mathlib.Numerals.{add-one}
 use native.Mathlib.Omega.{arith}
-use lib.Dec.{leb}
 use Rattle.messages.specs.Layout.{message_width}
 use Rattle.messages.specs.Tests.{between}
-use Rattle.lawful.proofs.Lent.{long, of_row, rows_even}
+use Rattle.lawful.proofs.Bounds.{bounds_of, of_row, rows_even}
 use Rattle.lawful.proofs.Rows.{even_at}
 use Rattle.lawful.specs.Lawful.{Range, fits, kind_ranges, unused, within}
-use Rattle.lawful.specs.Lent.{least_numbers, most_numbers}
+use Rattle.lawful.specs.declared.Span.{Span}
 use Rattle.lawful.proofs.in_row.Goals as goal
 
 -- one position further: the number there, and the rest
@@ -27,36 +25,22 @@ fits_from rs xs i h l =
 abbrev row_of : ℕ → List Range
 row_of k = get_or kind_ranges k []
 
+abbrev bound : (Span → ℕ) → ℕ → ℕ → ℕ
+bound side k i = get_or (get_or (bounds_of side) k []) i 0
+
 -- one position further
-turn : (k i : ℕ) {least most : List ℕ} (m : List ℕ) (good : Bool) → least ≡ least_numbers → most ≡ most_numbers → k < 5 → length m ≡ message_width → i < message_width
-    → (((good && leb (get_or least (k * message_width + i) 0) (get_or m i 0)) && leb (get_or m i 0) (get_or most (k * message_width + i) 0))
-    && fits (drop (i + 1) (row_of k)) (drop (i + 1) m))
+turn : (k i : ℕ) (m : List ℕ) (good : Bool) → k < 5 → length m ≡ message_width → i < message_width
+    → ((good && between (bound (λ s. s.0) k i) (get_or m i 0) (bound (λ s. s.1) k i)) && fits (drop (i + 1) (row_of k)) (drop (i + 1) m))
     ≡ (good && fits (drop i (row_of k)) (drop i m))
-turn k i {least} {most} m good e f h w l =
+turn k i m good h w l =
     let x : ℕ = get_or m i 0 in
-    let a : ℕ = get_or least (k * message_width + i) 0 in
-    let b : ℕ = get_or most (k * message_width + i) 0 in
     let rest : Bool = fits (drop (i + 1) (row_of k)) (drop (i + 1) m) in
-    ap (λ (z : Bool). z && rest) (and_assoc good (leb a x) (leb x b))
-    ∙ and_assoc good (between a x b) rest
+    let inside = subst (λ (n : ℕ). i < n) (sym (even_at message_width kind_ranges [] rows_even k h)) l in
+    and_assoc good (between (bound (λ s. s.0) k i) x (bound (λ s. s.1) k i)) rest
     ∙ ap (λ (z : Bool). good && z)
-    (ap₂ (λ (u v : ℕ). between u x v && rest) (of_row _ k i e h l) (of_row _ k i f h l)
-    ∙ sym (fits_from (row_of k) m i (subst (λ (n : ℕ). i < n) (sym (even_at message_width kind_ranges [] rows_even k h)) l) (omega arith)))
+    (ap₂ (λ (u v : ℕ). between u x v && rest) (of_row (λ s. s.0) k i h inside) (of_row (λ s. s.1) k i h inside)
+    ∙ sym (fits_from (row_of k) m i inside (omega arith)))
 
 pub loop-i-preserved : goal.loop-i-preserved
 loop-i-preserved c =
-    let the_loop_test = c.loop-i-test in
-    let the_loop = c.loop-i in
-    let the_args = c.args in
-    let the_pre = c.requires in (
-      omega arith,
-      turn the_args.row the_loop.i the_args.m.now the_loop.good the_pre.0 the_pre.1 the_pre.2 the_pre.3
-          the_loop_test.true
-          ∙ the_loop.invariant.1,
-    )
-
-pub bounds-least-first : goal.bounds-least-first
-bounds-least-first c = omega (arith, long _ c.requires.0)
-
-pub bounds-most-first : goal.bounds-most-first
-bounds-most-first c = omega (arith, long _ c.requires.1)
+    turn c.args.row c.loop-i.i c.args.m.now c.loop-i.good c.requires.0 c.requires.1 c.loop-i-test.true ∙ c.loop-i.invariant

@@ -1,7 +1,5 @@
 -- `rows::put_replies` meets its promise.
-use Prim.Native.Nat.{◌*◌, ◌+◌}
-use lib.ListN.{drop}
-use native.Mathlib.Omega.{arith}
+use Rattle.std.proofs.Common.{◌∙◌, arith, drop, ◌*◌, ◌+◌}
 use Rattle.record.specs.Table.{messages}
 use Rattle.rows.proofs.Lines.{replies_from, replies_over}
 use Rattle.printing.proofs.Writing.{bounded, over, turn}
@@ -12,21 +10,17 @@ use Rattle.rows.proofs.put_replies.Goals as goal
 
 pub loop-p-preserved : goal.loop-p-preserved
 loop-p-preserved c =
-    let the_put_reply = c.put_reply-at in
-    let the_loop = c.loop-p in
-    let the_args = c.args in
-    let the_pre = c.requires in
-    let R = messages the_args.n the_args.t.now in
-    let all_fits = the_pre.0 in (
-      omega arith,
-      turn (lines_of reply_line (reply_rows R (the_loop.p + 1) (drop (the_loop.p + 1) R))) ((the_loop.p + 1) * reply_widest)
-          (omega (arith, the_loop.invariant.1.put.within)) the_loop.invariant.1
-          (replies_from the_args.t.now the_args.n the_loop.p (omega arith)) the_put_reply.ensures
-          (omega (arith, the_loop.invariant.1.put.within, the_put_reply.ensures.within)),
+    let p = c.loop-p.p in
+    let R = messages c.args.n c.args.t.now in
+    let so_far = c.loop-p.invariant.1 in
+    let put = c.put_reply.ensures.put in (
+      c.put_reply.ensures.same_table ∙ c.loop-p.invariant.0,
+      turn (lines_of reply_line (reply_rows R (p + 1) (drop (p + 1) R))) ((p + 1) * reply_widest)
+          (omega (arith, c.requires.room, so_far.put.within, so_far.put.long)) so_far (replies_from c.args.t.now c.args.n p (omega arith)) put
+          (omega (arith, so_far.put.within, put.within)),
     )
 
-pub returns : goal.returns
-returns c =
-    let the_args = c.args in
-    let put = over c.loop-p.invariant.1 (replies_over the_args.t.now the_args.n c.loop-p.p (omega arith)) in
-    bounded (the_args.n * reply_widest) put (omega (arith, put.within, c.loop-p.invariant.0))
+pub returns-clause-put : goal.returns-clause-put
+returns-clause-put c =
+    let put = over c.loop-p.invariant.1 (replies_over c.args.t.now c.args.n c.loop-p.p (omega arith)) in
+    bounded (c.args.n * reply_widest) put (omega (arith, put.within))

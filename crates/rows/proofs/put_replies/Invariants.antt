@@ -1,5 +1,6 @@
 -- `rows::put_replies` meets its promise.
-use Prim.Native.Nat.{◌*◌, ◌-◌, ◌≤◌}
+use Rattle.std.proofs.Common.{◌≡◌}
+use Prim.Native.Nat.{◌*◌}
 use lib.ListN.{drop}
 use Rattle.record.specs.Table.{messages}
 use Rattle.printing.proofs.Writing.{Going}
@@ -11,8 +12,6 @@ use Rattle.rows.proofs.put_replies.Given as goal
 
 abbrev pub invariant-loop-p : goal.invariant-loop-p
 invariant-loop-p l =
-    (l.p ≤ l.n) × Going l.initial.out l.from (reply_lines (messages l.n l.t)) (l.p * reply_widest) l.out l.at
+    (l.printed.out.ghost_name ≡ l.initial.printed.out.ghost_name)
+    × Going l.initial.printed.out.now l.initial.printed.at (reply_lines (messages l.n l.t)) (l.p * reply_widest) l.printed.out.now l.printed.at
     (lines_of reply_line (reply_rows (messages l.n l.t) l.p (drop l.p (messages l.n l.t))))
-
-abbrev pub decreases-loop-p : goal.decreases-loop-p
-decreases-loop-p l = l.n - l.p

@@ -1,5 +1,5 @@
 -- `rows::put_reply` meets its promise.
-use mathlib.Core.Path.{◌≡◌, subst}
+use Rattle.std.proofs.Common.{◌≡◌, ◌∙◌, subst}
 use Rattle.messages.proofs.Chain.{failed, held}
 use Rattle.rows.proofs.Lines.{its_line, no_line}
 use Rattle.printing.proofs.Writing.{none}
@@ -10,24 +10,21 @@ use Rattle.record.specs.Table.{messages}
 use Rattle.rules.specs.Report.{report_on}
 use Rattle.rows.proofs.put_reply.Goals as goal
 
-pub returns-then-not-is_house_reply : goal.returns-then-not-is_house_reply
-returns-then-not-is_house_reply c =
-    let the_message = c.message-reply in
-    let the_args = c.args in
-    subst (λ (bs : Text). Put the_args.out.now the_args.at bs reply_widest the_args.out.now the_args.at)
-    (no_line the_args.t.now the_args.p the_message.ensures.0 (failed c.is_house_reply.ensures c.if-not-is_house_reply.true))
-    (none the_args.out.now the_args.at reply_widest)
+pub returns-then-not-is_house_reply-clause-put : goal.returns-then-not-is_house_reply-clause-put
+returns-then-not-is_house_reply-clause-put c =
+    let out = c.args.printed.now.out.now in
+    let at = c.args.printed.now.at in
+    subst (λ (bs : Text). Put out at bs reply_widest out at)
+    (no_line c.args.t.now c.args.p c.message-reply.ensures.0 (failed c.is_house_reply.ensures c.if-not-is_house_reply.true))
+    (none out at reply_widest)
 
-pub returns : goal.returns
-returns c =
-    let the_put_reply_line = c.put_reply_line in
-    let the_report_on = c.report_on-report in
-    let the_is_house_reply = c.is_house_reply in
-    let the_message = c.message-reply in
-    let the_args = c.args in
-    let told : the_report_on.result ≡ report_on (messages the_args.p the_args.t.now) c.reply_signed_at-signed.result.mark =
-    the_report_on.ensures in
-    subst (λ (bs : Text). Put the_args.out.now the_args.at bs reply_widest the_put_reply_line.new.out the_put_reply_line.result)
-    (its_line the_args.t.now the_args.p the_message.ensures.0 c.reply_signed_at-signed.result
-    (held the_is_house_reply.ensures c.if-not-is_house_reply.false) c.reply_signed_at-signed.ensures told)
-    the_put_reply_line.ensures
+pub returns-clause-put : goal.returns-clause-put
+returns-clause-put c =
+    let t = c.args.t.now in
+    let p = c.args.p in
+    let signed = c.reply_signed_at-signed in
+    let left = c.reply_line.new.self in
+    let told : c.from-report.result ≡ report_on (messages p t) signed.result.mark = c.from-report.ensures ∙ c.report_on.ensures in
+    subst (λ (bs : Text). Put c.args.printed.now.out.now c.args.printed.now.at bs reply_widest left.out.now left.at)
+    (its_line t p c.message-reply.ensures.0 signed.result (held c.is_house_reply.ensures c.if-not-is_house_reply.false) signed.ensures told)
+    c.reply_line.ensures.put

@@ -1,22 +1,19 @@
 -- What `says::answers_said` says at each of its returns.
-use Rattle.std.proofs.Common.{◌∙◌, arith, ne_eqb, sym}
-use Rattle.says.proofs.Said.{answers_read, no_answers, other_start, too_short}
+use Rattle.std.proofs.Common.{◌∙◌, arith}
+use Rattle.says.proofs.Said.{answers_read, no_answers, no_start}
 use Rattle.says.proofs.answers_said.Goals as goal
 
-pub returns-then-not-is_ended : goal.returns-then-not-is_ended
-returns-then-not-is_ended c = no_answers c.args.line.now 0 (sym c.is_ended.ensures ∙ c.if-not-is_ended.true)
+pub returns-in_err-body : goal.returns-in_err-body
+returns-in_err-body c = c.from_residual.ensures ∙ no_answers c.args.line.now 0 c.in_err-body.ensures
 
-pub returns-then-end-lt2 : goal.returns-then-end-lt2
-returns-then-end-lt2 c = too_short c.args.line.now c.if-end-lt2.true
-
-pub returns-then-line-ne65 : goal.returns-then-line-ne65
-returns-then-line-ne65 c = other_start c.args.line.now (omega arith) 0 (ne_eqb _ _ c.if-line-ne65.true)
-
-pub returns-then-line-ne-TAB : goal.returns-then-line-ne-TAB
-returns-then-line-ne-TAB c = other_start c.args.line.now (omega arith) 1 (ne_eqb _ _ c.if-line-ne-TAB.true)
+pub returns-in_err-digits : goal.returns-in_err-digits
+returns-in_err-digits c =
+    c.from_residual-in_err-digits.ensures
+    ∙ no_start c.args.line.now c.in_ok-body.field-0.now c.in_ok-body.ensures.1 c.in_err-digits.ensures.cases
 
 pub returns : goal.returns
 returns c =
+    let found = c.in_ok-digits.ensures.cases in
     c.read_number.ensures
-    ∙ answers_read c.args.line.now (sym c.is_ended.ensures ∙ c.if-not-is_ended.false) c.if-end-lt2.false c.if-line-ne65.false
-    c.if-line-ne-TAB.false
+    ∙ answers_read c.args.line.now c.in_ok-body.field-0.now c.in_ok-body.ensures.1 c.in_ok-body.ensures.0 (omega arith) found.0
+    c.in_ok-digits.digits.now found.1

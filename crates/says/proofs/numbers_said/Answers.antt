@@ -1,31 +1,30 @@
 -- What `says::numbers_said` says at each of its returns, and that a turn keeps what the loop keeps.
-use Rattle.std.proofs.Common.{◌∙◌, arith, sym}
-use Rattle.says.proofs.Said.{said_all, said_no, said_too_much, turn}
+use Rattle.std.proofs.Common.{◌∙◌, eqb, refl, rules}
+use Rattle.std.proofs.lemmas.Iterator.Consumers.{YieldsList-from_enumerate}
+use Rattle.std.proofs.lemmas.Iterator.Splits.{YieldsList-from_slice_split}
+use Rattle.lines.specs.Lines.{tab}
+use borrow.Author.Tests.{tests}
+use Rattle.says.proofs.Said.{begin, said_all, said_none, said_too_much, turn}
 use Rattle.says.proofs.numbers_said.Goals as goal
 
-pub returns-in_default : goal.returns-in_default
-returns-in_default c =
-    c.unreadable.ensures
-    ∙ said_no c.args.body.now c.loop-count.numbers c.loop-count.count c.loop-count.at c.loop-count.invariant.going c.loop-count-test.true
-    c.next_at-end.result c.next_at-end.ensures.0 (sym c.in_default.is ∙ c.read_number-read.ensures)
+pub loop-i-init : goal.loop-i-init
+loop-i-init c =
+    begin _ _ c.args.body.now
+    (YieldsList-from_enumerate
+    (YieldsList-from_slice_split _ (λ x. eqb x tab) c.args.body.now (cc) (cc) refl (λ x b q k. search (rules, tests)))
+    (cc))
 
-pub returns-then-end-body : goal.returns-then-end-body
-returns-then-end-body c =
-    said_all c.args.body.now c.loop-count.numbers c.loop-count.count c.loop-count.at c.loop-count.invariant.going c.loop-count-test.true
-    c.next_at-end.result c.next_at-end.ensures.0 c.in-Is.value c.in-Is.ensures c.if-end-body.true
+pub returns-then-i-ge-STEP_WIDTH : goal.returns-then-i-ge-STEP_WIDTH
+returns-then-i-ge-STEP_WIDTH c =
+    said_too_much _ _ _ _ c.loop-i.invariant (c.in-Some.i, c.in-Some.part) c.next.new.self c.in-Some.ensures.steps c.if-i-ge-STEP_WIDTH.true
 
-pub loop-count-preserved : goal.loop-count-preserved
-loop-count-preserved c =
-    record {
-      few = omega arith;
-      going =
-          turn c.args.body.now c.loop-count.numbers c.loop-count.count c.loop-count.at c.loop-count.invariant.going
-          c.loop-count-test.true c.next_at-end.result c.next_at-end.ensures.0 c.in-Is.value c.in-Is.ensures
-          (omega (arith, c.next_at-end.ensures.1, c.if-end-body.false));
-    }
+pub returns-in_err-numbers : goal.returns-in_err-numbers
+returns-in_err-numbers c =
+    c.from_residual.ensures ∙ said_none _ _ _ _ c.loop-i.invariant (c.in-Some.i, c.in-Some.part) c.next.new.self c.in-Some.ensures.steps c.in_err-numbers.ensures
+
+pub loop-i-preserved : goal.loop-i-preserved
+loop-i-preserved c =
+    turn _ _ _ _ c.loop-i.invariant (c.in-Some.i, c.in-Some.part) c.next.new.self c.in-Some.ensures.steps _ c.in_ok-numbers.ensures c.if-i-ge-STEP_WIDTH.false
 
 pub returns : goal.returns
-returns c =
-    c.unreadable-2.ensures
-    ∙ said_too_much c.args.body.now c.loop-count.numbers c.loop-count.count c.loop-count.at c.loop-count.invariant.going
-    c.loop-count-test.false
+returns c = said_all _ _ _ _ c.loop-i.invariant c.next.new.self c.in-None.ensures.steps

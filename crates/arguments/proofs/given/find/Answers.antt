@@ -1,31 +1,24 @@
 -- `arguments::given::find` meets its promise.
-use borrow.Author.Tests.{eq-eqb, ne_eqb}
-use mathlib.Core.Path.{◌∙◌, refl, sym}
-use native.Mathlib.Omega.{arith}
+use Rattle.std.proofs.Common.{rules, arith, ◌≡◌, ◌∙◌, sym, refl, ap, true, false, List, get_or, eqb}
 use Rattle.messages.proofs.Picks.{no, yes}
-use Rattle.arguments.proofs.Takes.{find_from, find_over, six_letters}
+use Rattle.arguments.proofs.Takes.{find_from, six_in_row}
+use Rattle.arguments.specs.Given.{found_in}
+use Rattle.rules.specs.Codes.{letter}
+use Rattle.rules.specs.Step.{arguments_of}
+use Rattle.rules.specs.declared.codes.Argument.{Argument}
+use Rattle.rules.specs.declared.codes.Argument.TheVariants.{Unused}
 use Rattle.arguments.proofs.given.find.Goals as goal
 
-pub returns-then-row-i : goal.returns-then-row-i
-returns-then-row-i c =
-    let the_if1 = c.if-row-i in
-    let the_loop_test = c.loop-i-test in
-    let the_loop = c.loop-i in
-    let the_pre = c.requires in
-    λ k e. yes _ (eq-eqb _ _ (the_if1.true ∙ sym e)) refl ∙ sym (find_from the_pre k the_loop.i the_loop_test.true) ∙ the_loop.invariant.1 k e
+pub returns-then-eq : goal.returns-then-eq
+returns-then-eq c =
+    let it : eqb (letter (get_or c.args.row.now c.loop-i.i Unused)) (letter c.args.argument) ≡ true = search rules in
+    yes _ it refl ∙ sym (find_from c.requires c.args.argument c.loop-i.i c.loop-i-test.true) ∙ c.loop-i.invariant
+    ∙ ap (λ (ks : List Argument). found_in c.args.argument ks (arguments_of c.args.s.now)) c.requires.its_row
 
 pub loop-i-preserved : goal.loop-i-preserved
 loop-i-preserved c =
-    let the_loop_test = c.loop-i-test in
-    let the_loop = c.loop-i in
-    let the_pre = c.requires in (
-      omega arith,
-      λ k e. no _ (ne_eqb _ _ (λ z. c.if-row-i.false (z ∙ e))) refl ∙ sym (find_from the_pre k the_loop.i the_loop_test.true)
-          ∙ the_loop.invariant.1 k e,
-    )
+    let it : eqb (letter (get_or c.args.row.now c.loop-i.i Unused)) (letter c.args.argument) ≡ false = search rules in
+    no _ it refl ∙ sym (find_from c.requires c.args.argument c.loop-i.i c.loop-i-test.true) ∙ c.loop-i.invariant
 
-pub returns : goal.returns
-returns c = λ k e. sym (find_over c.requires k c.loop-i.i (omega arith)) ∙ c.loop-i.invariant.1 k e
-
-pub bounds-row-i : goal.bounds-row-i
-bounds-row-i c = omega (arith, six_letters c.requires)
+pub bounds-s-i : goal.bounds-s-i
+bounds-s-i c = omega (arith, six_in_row c.requires, c.requires.seven)

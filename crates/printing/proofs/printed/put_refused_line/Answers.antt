@@ -1,9 +1,11 @@
 -- A letter, two cells and a line feed.
-use Rattle.std.proofs.Common.{arith}
+use Rattle.std.proofs.Common.{arith, rules}
 use Rattle.printing.proofs.Writing.{then}
 use Rattle.printing.proofs.printed.put_refused_line.Goals as goal
 
 pub returns : goal.returns
 returns c =
-    then (omega arith) c.put_byte-first.ensures
-    (then (omega arith) c.put_cell-second.ensures (then (omega arith) c.put_cell-third.ensures c.put_byte.ensures))
+    let put =
+    then (omega arith) c.byte.ensures.put
+    (then (omega arith) c.cell.ensures.put (then (omega arith) c.cell-2.ensures.put c.byte-2.ensures.put)) in
+    search (rules, put)

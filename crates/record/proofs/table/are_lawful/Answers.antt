@@ -1,43 +1,14 @@
 -- `record::table::are_lawful` meets its promise.
-use lib.ListN.{drop}
-use mathlib.Core.Path.{◌∙◌, ◌≡◌, refl, sym}
-use native.Mathlib.Omega.{arith}
-use Rattle.messages.proofs.Chain.{goes_on, leaves}
-use Rattle.messages.specs.Tests.{all}
-use Rattle.record.proofs.Cut.{test_next, test_over}
+use Rattle.std.proofs.Common.{ℕ, ◌+◌, ◌∙◌, arith, refl, rules, tests}
+use Rattle.std.proofs.lemmas.Iterator.{YieldsList-from_range}
+use Rattle.std.proofs.lemmas.Iterator.Search.{all_from_yields_List}
 use Rattle.lawful.specs.Lawful.{lawful}
-use Rattle.record.specs.Table.{Record}
+use Rattle.record.proofs.Cut.{test_each}
+use Rattle.record.specs.Table.{message_in}
 use Rattle.record.proofs.table.are_lawful.Goals as goal
-
--- before the first message all are left to test
-from_the_first : (R : Record) → all lawful (drop 0 R) ≡ all lawful R
-from_the_first R = refl
-
-pub returns-then-not-is_lawful_by : goal.returns-then-not-is_lawful_by
-returns-then-not-is_lawful_by c =
-    let the_message = c.message in
-    let the_loop_test = c.loop-p-test in
-    let the_loop = c.loop-p in
-    let the_args = c.args in
-    leaves c.is_lawful_by.result _
-    (test_next lawful the_args.n the_args.t.now the_loop.p _ the_loop_test.true the_message.ensures.0
-    c.is_lawful_by.ensures) c.if-not-is_lawful_by.true
-    ∙ the_loop.invariant.0
-
-pub loop-p-preserved : goal.loop-p-preserved
-loop-p-preserved c =
-    let the_message = c.message in
-    let the_loop_test = c.loop-p-test in
-    let the_loop = c.loop-p in
-    let the_args = c.args in (
-      goes_on c.is_lawful_by.result _
-          (test_next lawful the_args.n the_args.t.now the_loop.p _ the_loop_test.true the_message.ensures.0
-          c.is_lawful_by.ensures) c.if-not-is_lawful_by.false
-          ∙ the_loop.invariant.0,
-      omega arith,
-    )
 
 pub returns : goal.returns
 returns c =
-    let the_args = c.args in
-    sym (test_over lawful the_args.n the_args.t.now c.loop-p.p (omega arith)) ∙ c.loop-p.invariant.0
+    all_from_yields_List (λ (p : ℕ). lawful (message_in c.args.t.now (record { 0 = p + 1 }))) _ _ _ c.all.ensures.ran
+    (YieldsList-from_range 0 c.args.n c.args.n refl (omega arith)) (λ x b q k. search (rules, tests))
+    ∙ test_each lawful c.args.n c.args.t.now

@@ -1,21 +1,26 @@
 -- `results::play::play_text` meets its promise.
-use mathlib.Core.Path.{refl}
-use native.Mathlib.Omega.{arith}
-use Rattle.results.proofs.Showing.{is_too_long, is_unreadable, shows, shows_played, told}
-use Rattle.steptext.specs.Read.{too_long, unreadable}
+use Rattle.std.proofs.Common.{◌∙◌, ◌≡◌, arith, subst, ap₂}
+use Rattle.lines.specs.Lines.{Text}
+use Rattle.printing.specs.Printed.{refused_line}
+use Rattle.printing.specs.Put.{Put}
+use Rattle.printing.specs.Widths.{refused_widest}
+use Rattle.record.specs.Table.{most_room}
+use Rattle.results.specs.Output.{results_of}
+use Rattle.results.proofs.Showing.{is_refused, refused_as, refused_keeps, refused_prints, shows, shows_played, told}
 use Rattle.results.proofs.play.play_text.Goals as goal
 
-pub returns-in-Says : goal.returns-in-Says
-returns-in-Says c =
-    let w = told c.args.text.now c.in-Says.is c.read_text.ensures in
+pub returns-in-Ok : goal.returns-in-Ok
+returns-in-Ok c =
+    let w = told c.args.text.now c.in-Ok.is c.read_text.ensures in
     shows_played (omega arith) (omega arith) w c.play_steps.ensures.0 c.play_steps.ensures.1
 
-pub returns-in-Unreadable : goal.returns-in-Unreadable
-returns-in-Unreadable c =
-    let w = told c.args.text.now c.in-Unreadable.is c.read_text.ensures in
-    shows (unreadable c.in-Unreadable.line) (is_unreadable _ _ w.tells) c.put_refused_line.ensures refl (omega arith)
-
-pub returns-in-TooLong : goal.returns-in-TooLong
-returns-in-TooLong c =
-    let w = told c.args.text.now c.in-TooLong.is c.read_text.ensures in
-    shows too_long (is_too_long _ w.tells) c.put_refused_line-in-TooLong.ensures refl (omega arith)
+pub returns-in-Err : goal.returns-in-Err
+returns-in-Err c =
+    let e = c.in-Err.refusal in
+    let w = told c.args.text.now c.in-Err.is c.read_text.ensures in
+    let line : refused_line c.from.result c.line.result ≡ results_of most_room (refused_as e) =
+    ap₂ refused_line c.from.ensures c.line.ensures ∙ refused_prints most_room e in
+    shows (refused_as e) (is_refused _ e w.tells)
+    (subst (λ (bs : Text). Put c.args.out.now 0 bs refused_widest c.put_refused_line.new.out c.put_refused_line.result) line
+    c.put_refused_line.ensures)
+    (refused_keeps c.args.table.now e) (omega arith)

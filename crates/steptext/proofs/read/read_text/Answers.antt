@@ -1,34 +1,37 @@
--- What `steptext::read::read_text` says at each of its returns, and that line 1 ends in the text.
-use Rattle.std.proofs.Common.{ℕ, ◌*◌, ◌-◌, ◌∙◌, List, [], ap, arith, drop, length, subst, sym, take}
-use Rattle.record.specs.Table.{with_numbers}
-use Rattle.rules.specs.Run.{step_width}
-use Rattle.steptext.proofs.Whole.{all_gathered, first_within, too_many_bytes, too_short, unread_first}
-use Rattle.steptext.specs.Read.{read_steps}
-use Rattle.says.specs.Says.{answers_said}
-use Rattle.lines.specs.Lines.{lines}
-use Rattle.steptext.specs.Told.{Gathers}
+-- What `steptext::read::read_text` says at each of its returns.
+use Rattle.std.proofs.Common.{Err, ap, arith, inl, inr, length, rules, subst, sym, ◌∙◌, ◌≡◌}
+use Rattle.steptext.specs.Read.{read_lines, read_text}
+use Rattle.steptext.specs.Told.{Leaves}
+use Rattle.steptext.proofs.Whole.{all_gathered, at_front, none_gathered, refused, unread_first}
 use Rattle.steptext.proofs.read.read_text.Goals as goal
+use Rattle.steptext.proofs.read.read_text.Goals.{
+  then-text-gt-MOST_BYTES-via-then-text-gt-MOST_BYTES,
+  then-text-gt-MOST_BYTES-via-else-text-gt-MOST_BYTES+then-steps,
+}
 
 pub returns-then-text-gt-MOST_BYTES : goal.returns-then-text-gt-MOST_BYTES
-returns-then-text-gt-MOST_BYTES c = too_many_bytes c.args.text.now c.args.steps.now (omega arith)
-
-pub returns-then-steps : goal.returns-then-steps
-returns-then-steps c = too_short c.args.text.now c.args.steps.now c.if-steps.true
+returns-then-text-gt-MOST_BYTES c =
+    refused c.args.text.now c.args.steps.now
+    (elim c.then-text-gt-MOST_BYTES.branch [
+      | then-text-gt-MOST_BYTES-via-then-text-gt-MOST_BYTES w ↦ inl (omega arith)
+      | then-text-gt-MOST_BYTES-via-else-text-gt-MOST_BYTES+then-steps w ↦ inr (omega arith)
+    ])
 
 pub returns-in_default : goal.returns-in_default
 returns-in_default c =
-    unread_first c.args.text.now c.args.steps.now (omega arith) c.if-steps.false
-    (sym c.in_default.is ∙ c.answers_said-said.ensures ∙ ap answers_said c.next_line-first.ensures)
+    unread_first c.args.text.now c.args.steps.now (omega arith) (omega arith)
+    (ap read_lines (sym (at_front c.new-reader.result c.args.text c.new-reader.ensures.lent c.new-reader.ensures.position)) ∙ c.in_default.ensures)
 
-pub gather-read-requires : goal.gather-read-requires
-gather-read-requires c =
-    (omega (arith, first_within c.args.text.now, ap length c.next_line-first.ensures), omega arith)
+pub returns-in_err-said : goal.returns-in_err-said
+returns-in_err-said c =
+    let e : c.from_residual.result ≡ Err c.in_err-said.field-0.0 = search rules in
+    subst (λ r. Leaves (read_text (length c.args.steps.now) c.args.text.now) c.args.steps.now r c.args.steps.now) (sym e)
+    (none_gathered c.args.text.now c.args.steps.now (omega arith) (omega arith) _
+    (ap read_lines (sym (at_front c.new-reader.result c.args.text c.new-reader.ensures.lent c.new-reader.ensures.position)) ∙ c.in-Some.ensures)
+    c.in_err-said.field-0.0 c.gather.new.t c.in_err-said.ensures)
 
 pub returns : goal.returns
 returns c =
-    all_gathered c.args.text.now c.args.steps.now (omega arith) c.if-steps.false c.in-Is.answers
-    (c.in-Is.ensures ∙ ap answers_said c.next_line-first.ensures) c.gather-read.result c.gather-read.new.t _
-    (subst (λ (z : List ℕ). Gathers (read_steps c.in-Is.answers [] (lines (drop (length z) c.args.text.now))) c.gather-read.result c.gather-read.new.t)
-    c.next_line-first.ensures c.gather-read.ensures)
-    (c.copy_into.ensures
-    ∙ ap (λ (k : ℕ). with_numbers 0 c.args.steps.now (take (k * step_width - 0) c.gather-read.new.t)) c.count-end.ensures)
+    all_gathered c.args.text.now c.args.steps.now (omega arith) (omega arith) _
+    (ap read_lines (sym (at_front c.new-reader.result c.args.text c.new-reader.ensures.lent c.new-reader.ensures.position)) ∙ c.in-Some.ensures)
+    c.in_ok-said.said c.gather.new.t c.copy_into.new.t c.in_ok-said.ensures c.copy_into.ensures
