@@ -1,4 +1,4 @@
-// What a step gives for an argument.
+// What a step gives for an argument. A row and the numbers of a step stand side by side in two slices, since the row is a constant table's.
 ghost use Rattle.std.specs.Prelude.{◌≡◌};
 ghost use Rattle.arguments.specs.Given.{found_in};
 ghost use Rattle.arguments.specs.Ready.{Known};

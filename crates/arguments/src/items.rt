@@ -1,5 +1,5 @@
-// What the message at a place yields, by its kind. A message is a slice here and in the crates above: a type of its own would ask more of those who
-// call the public functions.
+// What the message at a place yields, by its kind. A message is a slice, since `yields`, `slip_in`, `drawn_in` and `buyer_signed_in` promise
+// what they do of any slice of 48 numbers.
 ghost use Rattle.std.specs.Prelude.{◌&&◌, ◌≡◌, ◌≤◌, eqb, length};
 ghost use Rattle.messages.specs.Layout.{body, kind_of, message_width};
 ghost use Rattle.messages.specs.declared.kind.Kind.TheVariants.{Initiate};
@@ -71,7 +71,7 @@ fn is_readable(m: &[u16]) -> bool
     requires { length m.now ≡ message_width }
     ensures { result ≡ readable m.now }
 {
-    has_slip(m) && slip_in(m).key.0 == FALSE_GATEWAY
+    has_slip(m) && slip_in(m).key == FALSE_GATEWAY
 }
 
 // An Initiate whose draw is the outsider's own.

@@ -1,4 +1,5 @@
-// The five kinds of message, each from its maker, source, destination and parts. Unused positions are 0.
+// The five kinds of message, each from its maker, source, destination and parts. Unused positions are 0. Each has parts of its own, so that the five
+// functions are no copies of one another.
 ghost use Rattle.std.specs.Prelude.{[], ◌∷◌, ◌≡◌};
 ghost use Rattle.messages.specs.Layout.{a_payment, an_auth_request, an_auth_response, an_initiate, an_invoice, filled, kind_number, message_width};
 

@@ -11,11 +11,11 @@ use forged::added::{forge_initiate, forge_invoice, forge_payment, forge_request,
 use honest::added::{asked, invoiced, paid, replied, started};
 use honest::allowed::{may_ask, may_invoice, may_pay, may_reply};
 use messages::layout::MESSAGE_WIDTH;
-use messages::parts::{Buyer, FALSE_GATEWAY, Gateway, HOUSE, Place, Seller};
+use messages::parts::{Buyer, FALSE_GATEWAY, HOUSE, Place, Seller};
 use record::table::message;
 use rules::codes::Argument;
 
-// The message that an argument names.
+// The message that an argument names. Table, row and step come apart here, as `is_allowed` and `added` promise what they do of them.
 fn named(t: &[u16], x: u16) -> &[u16]
     requires { (1 ≤ x) × (x * message_width ≤ length t.now) }
     ensures { (result.now ≡ message_in t.now (record { 0 = x })) × (length result.now ≡ message_width) }
@@ -46,10 +46,10 @@ pub fn added(t: &[u16], n: usize, answers: u16, row: &[Argument], s: &[u16]) -> 
     match s[0] {
         1 => started(Buyer(s[1]), Seller(s[2]), Place(n + 1)),
         2 => invoiced(Seller(s[1]), named(t, s[2])),
-        3 => paid(Gateway(HOUSE), Buyer(s[1]), named(t, s[2])),
+        3 => paid(HOUSE, Buyer(s[1]), named(t, s[2])),
         4 => asked(Seller(s[1]), named(t, s[2]), named(t, s[3])),
         5 => replied(answers, named(t, s[1])),
-        38 => paid(Gateway(FALSE_GATEWAY), Buyer(s[1]), named(t, s[2])),
+        38 => paid(FALSE_GATEWAY, Buyer(s[1]), named(t, s[2])),
         6..=7 => forge_initiate(t, row, s),
         8..=13 => forge_invoice(t, row, s),
         14..=21 => forge_payment(t, row, s),

@@ -71,7 +71,7 @@ fn are_zeros(xs: &[u16]) -> bool
     xs.iter().all(|&x| x == 0)
 }
 
-// The lower of two, where no refusal is above every number of one.
+// The lower of two, where no refusal is above every number of one: the order that `Result` has is another.
 fn lower(first: Result<(), Refusal>, second: Result<(), Refusal>) -> Result<(), Refusal>
     ensures { fault_number result ≡ min (fault_number first) (fault_number second) }
 {

@@ -11,8 +11,7 @@ use arguments::items::{buyer_signed_in, slip_in};
 use building::build::{auth_request, auth_response, initiate, invoice, payment};
 use messages::layout::{BODY, INVOICE_SIGNED, MESSAGE_WIDTH, REPLY_SIGNED, REQUEST_SIGNED};
 use messages::parts::{
-    Account, Buyer, Drawn, FALSE_GATEWAY, Gateway, HOUSE, Hashed, Mark, Seller, Slip, hashed_at,
-    mark_at,
+    Account, Buyer, Drawn, FALSE_GATEWAY, HOUSE, Hashed, Mark, Seller, Slip, hashed_at, mark_at,
 };
 use messages::signed::{
     BuyerSigned, InvoiceSigned, ReplySigned, RequestSigned, invoice_signed_at, reply_signed_at,
@@ -64,7 +63,7 @@ fn gathered_slip(step: &Forgery, g: Gathered) -> Slip
     ensures { Each step.now (λ R s. g ≡ gathered_in R s → result ≡ slip_given R s) }
 {
     let built = Slip {
-        key: Gateway(HOUSE),
+        key: HOUSE,
         mark: g.mark,
         account: g.account,
         drawn: g.drawn,
@@ -84,8 +83,8 @@ fn signed_by_buyer(step: &Forgery, mark: Mark, slip: Slip) -> BuyerSigned
     step.given_message(Item::P).map_or(built, buyer_signed_in)
 }
 
-// The five kinds. The maker is the outsider; where no gateway is named it is gateway 1. Table, row and step come apart: a type that joins them
-// would ask more of those who call.
+// The five kinds. The maker is the outsider; where no gateway is named it is gateway 1. Table, row and step come apart, as
+// these public functions promise what they do of the three.
 
 pub fn forge_initiate(t: &[u16], row: &[Argument], s: &[u16]) -> [u16; MESSAGE_WIDTH]
     requires { Ready (room_of t.now) t.now row.now s.now }
@@ -141,7 +140,7 @@ pub fn forge_request(t: &[u16], row: &[Argument], s: &[u16]) -> [u16; MESSAGE_WI
     auth_request(
         Seller(0),
         g.seller,
-        Gateway(HOUSE),
+        HOUSE,
         mark,
         slip,
         signed,
@@ -157,18 +156,12 @@ pub fn forge_response(t: &[u16], row: &[Argument], s: &[u16]) -> [u16; MESSAGE_W
     let g = gather(&step);
     let code = step.number(Argument::C);
     let built = ReplySigned {
-        signer: Gateway(FALSE_GATEWAY),
+        signer: FALSE_GATEWAY,
         code,
         mark: g.mark,
     };
     let signed = step
         .given_message(Item::G)
         .map_or(built, |m| reply_signed_at(m, REPLY_SIGNED));
-    auth_response(
-        Gateway(FALSE_GATEWAY),
-        Gateway(HOUSE),
-        g.seller,
-        code,
-        signed,
-    )
+    auth_response(FALSE_GATEWAY, HOUSE, g.seller, code, signed)
 }

@@ -80,7 +80,7 @@ pub fn asked(seller: Seller, invoice: &[u16], payment: &[u16]) -> [u16; MESSAGE_
     auth_request(
         seller,
         seller,
-        Gateway(HOUSE),
+        HOUSE,
         mark,
         slip,
         signed,
@@ -107,15 +107,9 @@ pub fn replied(answers: u16, request: &[u16]) -> [u16; MESSAGE_WIDTH]
     let mark = mark_at(request, BODY);
     let code = code_for(answers, slip_at(request, REQUEST_SLIP).account);
     let signed = ReplySigned {
-        signer: Gateway(HOUSE),
+        signer: HOUSE,
         code,
         mark,
     };
-    auth_response(
-        Gateway(HOUSE),
-        Gateway(HOUSE),
-        Seller(request[SOURCE]),
-        code,
-        signed,
-    )
+    auth_response(HOUSE, HOUSE, Seller(request[SOURCE]), code, signed)
 }

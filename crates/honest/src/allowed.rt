@@ -1,5 +1,6 @@
 // The conditions of the honest steps: a step whose condition does not hold is refused with 6. Step 1 is always allowed, and 38 has the
-// condition of step 3. Messages are slices of 48 numbers: a type of their own would ask more of those who call the public functions.
+// condition of step 3. Messages are slices, since the public ones promise what they
+// do of any slices of 48 numbers.
 ghost use Rattle.std.specs.Prelude.{◌≡◌, length};
 ghost use Rattle.honest.specs.Together.{for_house, own_initiate, own_invoice};
 ghost use Rattle.messages.specs.Layout.{message_width};
@@ -99,7 +100,7 @@ fn is_for_house(request: &[u16]) -> bool
     requires { length request.now ≡ message_width }
     ensures { result ≡ all holds (for_house request.now) }
 {
-    request[DESTINATION] == HOUSE && request[REQUEST_SLIP] == HOUSE
+    request[DESTINATION] == HOUSE.0 && request[REQUEST_SLIP] == HOUSE.0
 }
 
 pub fn may_reply(request: &[u16]) -> bool

@@ -55,6 +55,7 @@ static LEAST: [[u16; MESSAGE_WIDTH]; KINDS] = spans!(0);
 
 static MOST: [[u16; MESSAGE_WIDTH]; KINDS] = spans!(1);
 
+// A kind is its number here, which tells its row.
 pub fn is_lawful(m: &[u16]) -> bool
     ensures { result ≡ lawful m.now }
 {

@@ -7,7 +7,7 @@ ghost use Rattle.rules.specs.Report.{its_initiate, its_invoice, its_payment, its
 use crate::look::Seen;
 use building::build::{auth_request, initiate, invoice, payment};
 use messages::layout::MESSAGE_WIDTH;
-use messages::parts::{Gateway, HOUSE, Mark, Slip};
+use messages::parts::{HOUSE, Mark, Slip};
 use messages::signed::{BuyerSigned, InvoiceSigned, RequestSigned};
 
 // The slip under key 1 for a mark.
@@ -17,7 +17,7 @@ fn its_slip(mark: Mark) -> Slip
     let account = mark.hashed.account;
     let drawn = mark.hashed.drawn;
     Slip {
-        key: Gateway(HOUSE),
+        key: HOUSE,
         mark,
         account,
         drawn,
@@ -68,15 +68,7 @@ pub fn its_request(mark: Mark) -> [u16; MESSAGE_WIDTH]
         slip,
         mark,
     };
-    auth_request(
-        seller,
-        seller,
-        Gateway(HOUSE),
-        mark,
-        slip,
-        signed,
-        signed_by_buyer,
-    )
+    auth_request(seller, seller, HOUSE, mark, slip, signed, signed_by_buyer)
 }
 
 // All four.

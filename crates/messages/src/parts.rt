@@ -36,10 +36,10 @@ pub struct Account(pub u16);
 #[derive(Clone, Copy, PartialEq, Eq)]
 pub struct Place(pub usize);
 
-// Gateway 1 is the house, gateway 0 the outsider's false one: as numbers, which they are compared with in messages.
-pub const HOUSE: u16 = 1;
+// Gateway 1 is the house, gateway 0 the outsider's false one.
+pub const HOUSE: Gateway = Gateway(1);
 
-pub const FALSE_GATEWAY: u16 = 0;
+pub const FALSE_GATEWAY: Gateway = Gateway(0);
 
 // Who drew a random number, and the number.
 #[derive(Clone, Copy, PartialEq, Eq)]
@@ -79,7 +79,8 @@ pub fn owner(account: Account) -> Buyer
     Buyer(account.0)
 }
 
-// Each of these four reads other fields, so that they are no copies of one another.
+// Each of these four reads other fields, so that they are no copies of one another. A part is read at a position of a message, as the definitions
+// read it.
 pub fn drawn_at(m: &[u16], k: usize) -> Drawn
     requires { k + drawn_width ≤ length m.now }
     ensures { result ≡ drawn_at m.now k }

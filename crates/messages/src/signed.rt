@@ -22,14 +22,14 @@ pub const REQUEST_SIGNED_WIDTH: usize = 1 + MARK_WIDTH + SLIP_WIDTH;
 pub const REPLY_SIGNED_WIDTH: usize = 2 + MARK_WIDTH;
 
 // By a seller, over the mark of an Invoice.
-#[derive(Clone, Copy)]
+#[derive(Clone, Copy, PartialEq, Eq)]
 pub struct InvoiceSigned {
     pub signer: Seller,
     pub mark: Mark,
 }
 
 // By a buyer, over the slip of a Payment and the mark.
-#[derive(Clone, Copy)]
+#[derive(Clone, Copy, PartialEq, Eq)]
 pub struct BuyerSigned {
     pub signer: Buyer,
     pub slip: Slip,

@@ -12,7 +12,7 @@ use numbers::MOST_DIGITS;
 // The most bytes of a number with its tab: it has at most 5 digits.
 pub(crate) const CELL_WIDEST: usize = 1 + MOST_DIGITS;
 
-// A lent table, and where the next byte goes.
+// A lent table, and where the next byte goes. That it stays the same table, `same_table`, is said of two moments, which no invariant can.
 #[derive(Drop)]
 pub struct Printed<'a> {
     pub out: &'a mut [u8],

@@ -74,7 +74,7 @@ pub fn is_house_reply(m: &[u16]) -> bool
     requires { length m.now ≡ message_width }
     ensures { result ≡ house_reply m.now }
 {
-    m[KIND] == Kind::AuthResponse as u16 && m[MAKER] == HOUSE
+    m[KIND] == Kind::AuthResponse as u16 && m[MAKER] == HOUSE.0
 }
 
 // The reply that a place is asked about: how many messages are earlier, and the mark of its payment.

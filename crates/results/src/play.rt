@@ -25,6 +25,7 @@ fn play_steps(out: &mut [u8], table: &mut [u16], answers: u16, steps: &[u16]) ->
     requires { (most_printed ≤ length out.old) × (whole table.old ≡ true) × (step_count steps.now ≤ most_steps) }
     ensures { Put out.old 0 (results answers (room_of table.old) (steps_of steps.now)) most_printed out.new result × (table.new ≡ over (flat (played answers (room_of table.old) [] (steps_of steps.now))) table.old) }
 {
+    // an array, and a count that the steps give: there is no heap
     let mut numbers = [0u8; MOST_STEPS];
     let n = play(table, answers, steps, &mut numbers);
     let count = steps.len() / STEP_WIDTH;

@@ -24,7 +24,7 @@ fn count_after(n: u16, number: u8) -> u16
     if number == 0 { n + 1 } else { n }
 }
 
-// By the number of each step.
+// By the number of each step. Here and below there are at most `most_steps` numbers and `most_room` places, as the public `put_results` asks.
 fn put_steps(printed: &mut Printed<'_>, numbers: &[u8])
     requires few { length numbers.now ≤ most_steps }
     requires room { printed.old.at + length numbers.now * step_widest ≤ length printed.old.out.now }

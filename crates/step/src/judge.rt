@@ -15,7 +15,8 @@ use refusals::Refusal;
 use rules::codes::Argument;
 use rules::steps::STEP_WIDTH;
 
-// A step whose arguments are good: its condition, the room, and then the message.
+// A step whose arguments are good: its condition, the room, and then the message. Table, row and step come apart, as the public functions of `deeds`
+// promise what they do of the three.
 fn decide(
     t: &mut [u16],
     n: usize,
@@ -37,7 +38,8 @@ fn decide(
     Ok(Place(n + 1))
 }
 
-// A step of seven numbers against the first n messages of a table of whole messages, which are not looked through. The answer is the place of
+// A step of seven numbers against the first n messages of a table of whole messages, which are not looked through:
+// that the table is whole is asked of each caller, so that it is tested once for many steps. The answer is the place of
 // the message that it added.
 pub fn judge_step(t: &mut [u16], n: usize, answers: u16, s: &[u16]) -> Result<Place, Refusal>
     requires { (whole t.old ≡ true) × (n ≤ room_of t.old) × (length s.now ≡ 7) }

@@ -18,7 +18,7 @@ impl TextRefusal {
     ghost use Rattle.std.specs.Prelude.{◌≡◌};
     ghost use Rattle.steptext.specs.Told.{refusal_line};
 
-    // 0 where no line is at fault.
+    // 0 where no line is at fault, as it is printed and as C has it.
     pub fn line(self) -> usize
         ensures { result ≡ refusal_line self }
     {
