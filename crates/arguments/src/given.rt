@@ -5,14 +5,16 @@ ghost use Rattle.arguments.specs.Ready.{Known};
 ghost use Rattle.rules.specs.Codes.{row_of};
 ghost use Rattle.rules.specs.Step.{arguments_of, code_of};
 
+use crate::codes::MOST_ARGUMENTS;
 use rules::codes::Argument;
 
 pub fn find(argument: Argument, row: &[Argument], s: &[u16]) -> Option<u16>
     requires { Known row.now s.now }
     ensures { result ≡ found_in argument (row_of (code_of s.now)).takes (arguments_of s.now) }
 {
-    for (i, &own) in row.iter().enumerate() {
-        if own == argument {
+    // By the index, so that the compiler knows how long a row is.
+    for i in 0..MOST_ARGUMENTS {
+        if row[i] == argument {
             return Some(s[i + 1]);
         }
     }

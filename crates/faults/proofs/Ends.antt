@@ -125,3 +125,7 @@ zeros_from s i =
     each : (xs : List ℕ) → list_all is_zero xs ≡ all is_zero xs
     each [] = refl
     each (x ∷ xs) = ap (λ (b : Bool). is_zero x && b) (each xs)
+
+-- of a step of seven numbers
+pub zeros_to : (s : List ℕ) (i : ℕ) → length s ≡ 7 → list_all is_zero (take (7 - (i + 1)) (drop (i + 1) s)) ≡ all is_zero (drop i (arguments_of s))
+zeros_to s i seven = ap (λ (w : ℕ). list_all is_zero (take (w - (i + 1)) (drop (i + 1) s))) (sym seven) ∙ zeros_from s i

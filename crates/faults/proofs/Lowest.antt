@@ -1,5 +1,5 @@
 -- The refusals of arguments: the step's number is the lowest of the six.
-use mathlib.Core.Bool.{Bool, true, false, ◌&&◌, cond}
+use mathlib.Core.Bool.{Bool, true, false, false≢true, ◌&&◌, cond}
 use mathlib.Core.List.{List}
 use mathlib.Core.Path.{◌≡◌, ◌∙◌, refl, sym, ap, ap₂}
 use Prim.Native.Nat.{ℕ, suc, ◌+◌, ◌≤◌, ◌<◌, min}
@@ -11,7 +11,10 @@ use Rattle.record.specs.Table.{Record}
 use Rattle.rules.specs.declared.codes.Argument.{Argument}
 use Rattle.rules.specs.declared.codes.Argument.TheVariants.{Unused}
 use Rattle.rules.specs.Items.{each_argument, holding, in_range, placed}
-use Rattle.faults.specs.Faults.{fault_of, faults, fine}
+use Rattle.std.specs.Prelude.{Err, Ok, Result}
+use Rattle.std.specs.Result.{is_err}
+use Rattle.faults.specs.Faults.{fault_number, fault_of, faults, fine}
+use Rattle.refusals.specs.declared.Refusal.{Refusal}
 
 -- gates that two arguments pass or not: the lower number wins
 unfoldable pub three : Bool → Bool → Bool → ℕ
@@ -46,6 +49,11 @@ least_three true true true = omega arith
 pub fault_least : (n : ℕ) (R : Record) (k : Argument) (x : ℕ) → 3 ≤ fault_of n R k x
 unfolding three
 fault_least n R k x = least_three (in_range k x) (placed n k x) (holding R k x)
+
+-- no refusal is above every number of one
+pub fine_highest : (r : Result (Unit {0}) Refusal) (k : ℕ) → false ≡ is_err r → k ≤ fine → k ≡ min k (fault_number r)
+fine_highest (Ok u) k e h = omega arith
+fine_highest (Err f) k e h = absurd (false≢true e)
 
 -- the step's number from argument i on
 pub at_least : (n : ℕ) (R : Record) (ks : List Argument) (xs : List ℕ) → 3 ≤ faults n R ks xs

@@ -16,6 +16,7 @@ use messages::parts::Place;
 use record::table::message;
 use refusals::Refusal;
 use rules::codes::Argument;
+use rules::steps::STEP_WIDTH;
 
 fn range_fault(least: u16, x: u16, most: u16) -> Result<(), Refusal>
     ensures { fault_number result ≡ range_fault least x most }
@@ -82,7 +83,8 @@ fn lower(first: Result<(), Refusal>, second: Result<(), Refusal>) -> Result<(), 
     }
 }
 
-// A row has nothing after its first unused argument, so from there on only zeros are looked for. A 3 is the lowest and ends the search.
+// A row has nothing after its first unused argument, so from there on only zeros are looked for. A 3 is the lowest and ends the search. Most
+// arguments have no fault, and for them nothing is compared.
 pub fn first_fault(t: &[u16], n: usize, row: &[Argument], s: &[u16]) -> Result<(), Refusal>
     requires { (n * message_width ≤ length t.now) × Known row.now s.now }
     ensures { fault_number result ≡ faults n (messages n t.now) (row_of (code_of s.now)).takes (arguments_of s.now) }
@@ -90,17 +92,19 @@ pub fn first_fault(t: &[u16], n: usize, row: &[Argument], s: &[u16]) -> Result<(
     let mut first = Ok(());
     for (i, &argument) in row.iter().enumerate() {
         if argument == Argument::Unused {
-            return if are_zeros(&s[i + 1..]) {
+            return if are_zeros(&s[i + 1..STEP_WIDTH]) {
                 first
             } else {
                 Err(Refusal::Argument)
             };
         }
         let found = fault(t, n, argument, s[i + 1]);
-        if found == Err(Refusal::Argument) {
-            return found;
+        if found.is_err() {
+            if found == Err(Refusal::Argument) {
+                return found;
+            }
+            first = lower(first, found);
         }
-        first = lower(first, found);
     }
     first
 }

@@ -13,7 +13,8 @@ use messages::layout::{
     REQUEST_BUYER_SIGNED, REQUEST_SIGNED, REQUEST_SLIP, SOURCE,
 };
 use messages::parts::{
-    Buyer, HOUSE, Hashed, MARK_WIDTH, Mark, Seller, Slip, hashed_at, mark_at, owner, slip_at,
+    Buyer, HOUSE, Hashed, MARK_WIDTH, Mark, Seller, Slip, hashed_at, mark_at, owner, same_mark,
+    slip_at,
 };
 
 pub fn may_invoice(seller: Seller, initiate: &[u16]) -> bool
@@ -112,8 +113,8 @@ pub fn may_reply(request: &[u16]) -> bool
     let slip = slip_at(request, REQUEST_SLIP);
     let buyer = owner(slip.account);
     is_for_house(request)
-        && slip.mark == mark
-        && mark == rebuilt_mark(seller, slip)
+        && same_mark(slip.mark, mark)
+        && same_mark(mark, rebuilt_mark(seller, slip))
         && is_signed_by_seller(request, REQUEST_SIGNED, seller, mark)
         && slip_is(request, REQUEST_SIGNED + 1 + MARK_WIDTH, slip)
         && is_signed_by_buyer(request, REQUEST_BUYER_SIGNED, buyer, slip, mark)

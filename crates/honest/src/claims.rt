@@ -8,20 +8,22 @@ ghost use Rattle.messages.specs.Tests.{all};
 ghost use Rattle.rules.specs.Honest.{holds, mark_is, slip_is};
 
 use messages::layout::{DESTINATION, SOURCE};
-use messages::parts::{Buyer, Mark, SLIP_WIDTH, Seller, Slip, mark_at, slip_at};
+use messages::parts::{
+    Buyer, Mark, SLIP_WIDTH, Seller, Slip, mark_at, same_mark, same_slip, slip_at,
+};
 
 pub fn mark_is(m: &[u16], k: usize, wanted: Mark) -> bool
     requires { k + mark_width ≤ length m.now }
     ensures { result ≡ holds (mark_is m.now k wanted) }
 {
-    mark_at(m, k) == wanted
+    same_mark(mark_at(m, k), wanted)
 }
 
 pub fn slip_is(m: &[u16], k: usize, wanted: Slip) -> bool
     requires { k + slip_width ≤ length m.now }
     ensures { result ≡ holds (slip_is m.now k wanted) }
 {
-    slip_at(m, k) == wanted
+    same_slip(slip_at(m, k), wanted)
 }
 
 // Its source and its destination are these.

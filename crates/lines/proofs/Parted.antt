@@ -17,14 +17,14 @@ first_by true x xs e = refl
 first_by false x xs e = ap (onto x) e
 
 -- a text that is not empty has a first line
-first_line : (t : Text) → 1 ≤ length t → lines t ≡ take (suc (before line_feed t)) t ∷ lines (drop (suc (before line_feed t)) t)
+pub first_line : (t : Text) → 1 ≤ length t → lines t ≡ take (suc (before line_feed t)) t ∷ lines (drop (suc (before line_feed t)) t)
 first_line [] h = absurd (omega arith)
 first_line (x ∷ []) h = only_by (eqb x line_feed) x
 first_line (x ∷ y ∷ ys) h = first_by (eqb x line_feed) x (y ∷ ys) (first_line (y ∷ ys) (omega arith))
 
 -- the line at a position, and the lines after it
 
-line_here : (t : Text) (at : ℕ) → at < length t → line_at t at ≡ take (suc (before line_feed (drop at t))) (drop at t)
+pub line_here : (t : Text) (at : ℕ) → at < length t → line_at t at ≡ take (suc (before line_feed (drop at t))) (drop at t)
 unfolding line_at
 line_here t at h = ap (λ (z : List Text). get_or z 0 []) (first_line (drop at t) (omega (arith, length-drop at t)))
 
@@ -33,7 +33,7 @@ drop_taken zero t = refl
 drop_taken (suc k) [] = refl
 drop_taken (suc k) (x ∷ t) = drop_taken k t
 
-lines_from : (t : Text) (at : ℕ) → at < length t → lines (drop at t) ≡ line_at t at ∷ lines (drop (at + length (line_at t at)) t)
+pub lines_from : (t : Text) (at : ℕ) → at < length t → lines (drop at t) ≡ line_at t at ∷ lines (drop (at + length (line_at t at)) t)
 lines_from t at h =
     let k = suc (before line_feed (drop at t)) in
     first_line (drop at t) (omega (arith, length-drop at t))

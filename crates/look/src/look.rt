@@ -30,7 +30,8 @@ pub fn look(t: &[u16], n: usize, earlier: usize, trusted: bool, mark: Mark) -> O
         if !trusted && !is_lawful(m) {
             return None;
         }
-        if i < earlier {
+        let counts = i < earlier;
+        if counts {
             wanted.note(&mut seen, m);
         }
     }

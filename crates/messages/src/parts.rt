@@ -1,4 +1,5 @@
-// The parties, each a sort of its own, and the parts that messages are made of, read from a message. Two parts are compared by `==`.
+// The parties, each a sort of its own, and the parts that messages are made of, read from a message. Two parts are compared by `==`,
+// and that this compares each of their numbers is promised by the functions at the end.
 ghost use Rattle.std.specs.Prelude.{◌≡◌, ◌+◌, ◌≤◌, length};
 ghost use Rattle.messages.specs.Parts.{
   drawn_at,
@@ -8,6 +9,10 @@ ghost use Rattle.messages.specs.Parts.{
   mark_at,
   mark_width,
   owner_of,
+  same_drawn,
+  same_hashed,
+  same_mark,
+  same_slip,
   slip_at,
   slip_width,
 };
@@ -127,4 +132,28 @@ pub fn slip_at(m: &[u16], k: usize) -> Slip
         account: Account(m[rest]),
         drawn,
     }
+}
+
+pub fn same_drawn(drawn: Drawn, other: Drawn) -> bool
+    ensures { result ≡ same_drawn drawn other }
+{
+    drawn == other
+}
+
+pub fn same_hashed(hashed: Hashed, other: Hashed) -> bool
+    ensures { result ≡ same_hashed hashed other }
+{
+    hashed == other
+}
+
+pub fn same_mark(mark: Mark, other: Mark) -> bool
+    ensures { result ≡ same_mark mark other }
+{
+    mark == other
+}
+
+pub fn same_slip(slip: Slip, other: Slip) -> bool
+    ensures { result ≡ same_slip slip other }
+{
+    slip == other
 }

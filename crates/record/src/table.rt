@@ -56,7 +56,10 @@ pub fn copy_into(t: &mut [u16], from: usize, xs: &[u16])
     requires { from + length xs.now ≤ length t.old }
     ensures { t.new ≡ with_numbers from t.old xs.now }
 {
-    t[from..from + xs.len()].copy_from_slice(xs);
+    // Number by number: of `copy_from_slice` the compiler makes two copies and a test whether they overlap.
+    for i in 0..xs.len() {
+        t[from + i] = xs[i];
+    }
 }
 
 // A message written into the place after n.

@@ -18,7 +18,7 @@ agreed_seen x R {s} e =
     (sym e)
 
 -- in a trusted record every message is passed
-all_trusted : (R : Record) → all (passed true) R ≡ true
+pub all_trusted : (R : Record) → all (passed true) R ≡ true
 all_trusted [] = refl
 all_trusted (m ∷ R) = all_trusted R
 

@@ -46,6 +46,10 @@ pub fn play_text(
             let end = said.count * STEP_WIDTH;
             play_steps(out, table, said.answers, &steps[..end])
         }
-        Err(refusal) => put_refused_line(out, u8::from(refusal) as u16, refusal.line() as u16),
+        Err(refusal) => {
+            let number = u8::from(refusal) as u16;
+            let line = refusal.line() as u16;
+            put_refused_line(out, number, line)
+        }
     }
 }

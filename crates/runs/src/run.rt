@@ -42,7 +42,7 @@ pub fn play(t: &mut [u16], answers: u16, steps: &[u16], verdicts: &mut [u8]) -> 
     n
 }
 
-// How many messages the record then has.
+// How many messages the record then has. All tests are made before any is answered.
 pub fn run(
     t: &mut [u16],
     answers: u16,
@@ -51,13 +51,16 @@ pub fn run(
 ) -> Result<usize, Refusal>
     ensures { Leaves (run_of answers t.old steps.now verdicts.old) result t.new verdicts.new }
 {
-    if !is_whole(t) {
+    let broken = !is_whole(t);
+    let uneven = !are_whole_steps(steps);
+    let short = verdicts.len() < steps.len() / STEP_WIDTH;
+    if broken {
         return Err(Refusal::Record);
     }
-    if !are_whole_steps(steps) {
+    if uneven {
         return Err(Refusal::Steps);
     }
-    if verdicts.len() < steps.len() / STEP_WIDTH {
+    if short {
         return Err(Refusal::Verdicts);
     }
     Ok(play(t, answers, steps, verdicts))

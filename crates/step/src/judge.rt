@@ -15,8 +15,8 @@ use refusals::Refusal;
 use rules::codes::Argument;
 use rules::steps::STEP_WIDTH;
 
-// A step whose arguments are good: its condition, the room, and then the message. Table, row and step come apart, as the public functions of `deeds`
-// promise what they do of the three.
+// A step whose arguments are good: its condition, the room, and then the message. Both tests are made before either is answered. Table, row and
+// step come apart, as the public functions of `deeds` promise what they do of the three.
 fn decide(
     t: &mut [u16],
     n: usize,
@@ -27,10 +27,12 @@ fn decide(
     requires { (whole t.old ≡ true) × Ready n t.old row.now s.now }
     ensures { Answered n t.old (decided answers n t.old s.now) result t.new }
 {
-    if !is_allowed(t, s) {
+    let barred = !is_allowed(t, s);
+    let full = room(t) <= n;
+    if barred {
         return Err(Refusal::Condition);
     }
-    if room(t) <= n {
+    if full {
         return Err(Refusal::Room);
     }
     let m = added(t, n, answers, row, s);
@@ -50,7 +52,8 @@ pub fn judge_step(t: &mut [u16], n: usize, answers: u16, s: &[u16]) -> Result<Pl
         return Err(Refusal::Code);
     }
     let row = row_of(code as usize);
-    first_fault(t, n, row, s)?;
+    let fault = first_fault(t, n, row, s);
+    fault?;
     decide(t, n, answers, row, s)
 }
 

@@ -71,13 +71,13 @@ module _ (t : Text) (steps : List ℕ) where
         table = refl;
       })
 
-  too_many_bytes : most_bytes < length t → Leaves (read_text (length steps) t) steps (Err TooLong) steps
+  pub too_many_bytes : most_bytes < length t → Leaves (read_text (length steps) t) steps (Err TooLong) steps
   unfolding read_text
   too_many_bytes h =
       leaves_too_long
       (ap (λ (b : Bool). cond (b && leb (most_steps * step_width) (length steps)) (read_lines (lines t)) too_long) (sym (lt-leb (length t) most_bytes h)))
 
-  too_short : length steps < most_steps * step_width → Leaves (read_text (length steps) t) steps (Err TooLong) steps
+  pub too_short : length steps < most_steps * step_width → Leaves (read_text (length steps) t) steps (Err TooLong) steps
   unfolding read_text
   too_short h =
       leaves_too_long

@@ -1,6 +1,7 @@
 -- Of each public operation: any two results that its promise allows are equal, its answer and everything lent. A promise that is an equation,
 -- as those of most helpers, allows one result by the first of these; each of the others has its own. Where each is proved is said beside it.
-use Rattle.std.specs.Prelude.{ℕ, List, Result, ◌≡◌, length}
+use Rattle.std.specs.Prelude.{ℕ, List, None, Option, Result, Some, ◌≡◌, length}
+use Rattle.std.specs.Borrow.{Bor}
 use Rattle.host.specs.Entries.{Ran as RanBy, Read, Stepped}
 use Rattle.record.specs.Table.{messages, room_of}
 use Rattle.results.specs.Shown.{Shows}
@@ -9,7 +10,9 @@ use Rattle.rules.specs.Step.{Outcome, Step, judge, judge_table}
 use Rattle.runs.specs.Ran.{Leaves as RunLeaves, Plays}
 use Rattle.step.specs.Answer.{Answered}
 use Rattle.steptext.specs.Read.{Reading, read_text}
+use Rattle.lines.specs.Handed.{Hands, HandsOver}
 use Rattle.lines.specs.Lines.{Text}
+use Rattle.lines.specs.declared.reader.Reader.{Reader}
 use Rattle.steptext.specs.Told.{Leaves as TextLeaves}
 use Rattle.steptext.specs.declared.told.Said.{Said}
 use Rattle.steptext.specs.declared.told.TextRefusal.{TextRefusal}
@@ -94,3 +97,18 @@ abbrev pub KpReadUnique : Type 0
 KpReadUnique =
     (t : List ℕ) (o : Reading) (r r' answers answers' count count' line line' : ℕ) (left left' : List ℕ) → Read t o r answers count line left
     → Read t o r' answers' count' line' left' → (r ≡ r') × (answers ≡ answers') × (count ≡ count') × (line ≡ line') × (left ≡ left')
+
+-- the bytes of a line that is handed over
+abbrev pub handed : Option (Bor Text) → Option Text
+handed None = None
+handed (Some line) = Some line.now
+
+-- `line_at` (proofs/Handed)
+abbrev pub LineUnique : Type 0
+LineUnique = (t : Text) (at : ℕ) (r r' : Option (Bor Text)) → Hands t at r → Hands t at r' → handed r ≡ handed r'
+
+-- `Reader::next`, and the reader that it leaves (proofs/Handed)
+abbrev pub NextUnique : Type 0
+NextUnique =
+    (reader left left' : Reader) (r r' : Option (Bor Text)) → HandsOver reader r left → HandsOver reader r' left'
+    → (handed r ≡ handed r') × (left ≡ left')

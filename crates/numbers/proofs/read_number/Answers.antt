@@ -1,5 +1,6 @@
 -- What `numbers::read_number` says at each of its returns.
-use Rattle.std.proofs.Common.{◌≡◌, ◌∙◌, ◌≤◌, false, length, rules, sym}
+use Rattle.std.proofs.Common.{arith, ℕ, ◌≡◌, ◌∙◌, ◌<◌, ◌≤◌, false, length, rules, subst, sym}
+use Rattle.std.specs.Result.{OkIff}
 use Rattle.messages.specs.Tests.{between}
 use Rattle.messages.proofs.Chain.{inside}
 use Rattle.numbers.proofs.Values.{narrowed, no_digit, unreadable}
@@ -19,9 +20,11 @@ returns-then-not-is_ascii_digit c =
     no_digit c.args.xs.now c.loop-digit.sum c.loop-digit.digit-index c.loop-digit.invariant.reading c.loop-digit-test.true
     (sym c.is_ascii_digit.ensures.value ∙ c.if-not-is_ascii_digit.true)
 
+-- That what is made a number of 16 bits is the sum is found by arithmetic, however the code says it.
 pub returns : goal.returns
 returns c =
     let h : 1 ≤ length c.args.xs.now = search rules in
     c.ok.ensures.value
     ∙ narrowed c.args.xs.now c.loop-digit.sum c.loop-digit.digit-index c.loop-digit.invariant.reading c.try_from.result c.loop-digit-test.false
-    (inside h c.loop-digit.invariant.few) (sym c.no_needless_0.ensures ∙ c.if-not-no_needless_0.false) c.try_from.ensures
+    (inside h c.loop-digit.invariant.few) (sym c.no_needless_0.ensures ∙ c.if-not-no_needless_0.false)
+    (subst (λ (sum : ℕ). OkIff c.try_from.result (sum < 65536) sum) (omega arith) c.try_from.ensures)

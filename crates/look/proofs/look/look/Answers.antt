@@ -8,10 +8,10 @@ use Rattle.look.proofs.Standing.{one_counted}
 use Rattle.look.specs.Looked.{passed, seen_of}
 use Rattle.look.specs.declared.payment.Wanted.{Wanted}
 use Rattle.look.proofs.look.look.Goals.{
-  else-i-earlier,
+  else-counts,
   else-not-trusted-via-else-not-trusted,
   else-not-trusted-via-then-not-trusted+else-not-is_lawful,
-  then-i-earlier,
+  then-counts,
 }
 use Rattle.look.proofs.look.look.Goals as goal
 
@@ -32,11 +32,12 @@ loop-i-preserved c =
     ] in
     record {
       rest = goes_on test _ here held ∙ c.loop-i.invariant.rest;
-      seen = elim c.if-i-earlier.branch [
-        | then-i-earlier w ↦ w.seen-is ∙ w.note.ensures _ c.loop-i.invariant.seen
-            ∙ ap (seen_of c.new-wanted.result) (one_counted c.args.t.now c.loop-i.i c.args.earlier c.message-m.ensures.0 w.if-i-earlier.true)
-        | else-i-earlier w ↦ w.seen-is ∙ c.loop-i.invariant.seen
-            ∙ ap (λ (k : ℕ). seen_of c.new-wanted.result (messages k c.args.t.now)) (omega arith)
+      -- that a message counts if its place is earlier is found by arithmetic, however the code tests it
+      seen = elim c.if-counts.branch [
+        | then-counts w ↦ w.seen-is ∙ w.note.ensures _ c.loop-i.invariant.seen
+            ∙ ap (seen_of c.new-wanted.result) (one_counted c.args.t.now c.loop-i.i c.args.earlier c.message-m.ensures.0 (grind arith))
+        | else-counts w ↦ w.seen-is ∙ c.loop-i.invariant.seen
+            ∙ ap (λ (k : ℕ). seen_of c.new-wanted.result (messages k c.args.t.now)) (grind arith)
       ];
     }
 

@@ -14,13 +14,12 @@ returns-in-Ok c =
     let w = told c.args.text.now c.in-Ok.is c.read_text.ensures in
     shows_played (omega arith) (omega arith) w c.play_steps.ensures.0 c.play_steps.ensures.1
 
+-- That the line is the refusal's is found by arithmetic, however the code makes it.
 pub returns-in-Err : goal.returns-in-Err
 returns-in-Err c =
     let e = c.in-Err.refusal in
     let w = told c.args.text.now c.in-Err.is c.read_text.ensures in
-    let line : refused_line c.from.result c.line.result ≡ results_of most_room (refused_as e) =
-    ap₂ refused_line c.from.ensures c.line.ensures ∙ refused_prints most_room e in
     shows (refused_as e) (is_refused _ e w.tells)
-    (subst (λ (bs : Text). Put c.args.out.now 0 bs refused_widest c.put_refused_line.new.out c.put_refused_line.result) line
-    c.put_refused_line.ensures)
+    (subst (λ (bs : Text). Put c.args.out.now 0 bs refused_widest c.put_refused_line.new.out c.put_refused_line.result)
+    (ap₂ refused_line c.from-number.ensures (omega arith) ∙ refused_prints most_room e) c.put_refused_line.ensures)
     (refused_keeps c.args.table.now e) (omega arith)

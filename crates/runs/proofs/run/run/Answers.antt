@@ -8,28 +8,28 @@ use Rattle.rules.specs.Run.{step_count}
 use Rattle.runs.proofs.Refusals.{few_bytes, no_steps, not_whole, plays}
 use Rattle.runs.proofs.run.run.Goals as goal
 
-pub returns-then-not-is_whole : goal.returns-then-not-is_whole
-returns-then-not-is_whole c =
-    not_whole c.args.answers c.args.t.now c.args.steps.now c.args.verdicts.now (failed c.is_whole.ensures c.if-not-is_whole.true)
+pub returns-then-broken : goal.returns-then-broken
+returns-then-broken c =
+    not_whole c.args.answers c.args.t.now c.args.steps.now c.args.verdicts.now (failed c.is_whole-broken.ensures c.if-broken.true)
 
-pub returns-then-not-are_whole_steps : goal.returns-then-not-are_whole_steps
-returns-then-not-are_whole_steps c =
-    let whole_table : c.is_whole.result ≡ true = cc in
+pub returns-then-uneven : goal.returns-then-uneven
+returns-then-uneven c =
+    let whole_table : c.is_whole-broken.result ≡ true = cc in
     no_steps c.args.answers c.args.t.now c.args.steps.now c.args.verdicts.now
-    (held c.is_whole.ensures whole_table) (failed c.are_whole_steps.ensures c.if-not-are_whole_steps.true)
+    (held c.is_whole-broken.ensures whole_table) (failed c.are_whole_steps-uneven.ensures c.if-uneven.true)
 
-pub returns-then-verdicts-steps : goal.returns-then-verdicts-steps
-returns-then-verdicts-steps c =
-    let whole_table : c.is_whole.result ≡ true = cc in
-    let even : c.are_whole_steps.result ≡ true = cc in
+pub returns-then-short : goal.returns-then-short
+returns-then-short c =
+    let whole_table : c.is_whole-broken.result ≡ true = cc in
+    let even : c.are_whole_steps-uneven.result ≡ true = cc in
     few_bytes c.args.answers c.args.t.now c.args.steps.now c.args.verdicts.now
-    (held c.is_whole.ensures whole_table) (held c.are_whole_steps.ensures even)
-    (lt-leb (step_count c.args.steps.now) (length c.args.verdicts.now) c.if-verdicts-steps.true)
+    (held c.is_whole-broken.ensures whole_table) (held c.are_whole_steps-uneven.ensures even)
+    (lt-leb (step_count c.args.steps.now) (length c.args.verdicts.now) c.if-short.true)
 
 pub returns : goal.returns
 returns c =
     plays c.args.answers c.args.t.now c.args.steps.now c.args.verdicts.now
-    (held c.is_whole.ensures c.if-not-is_whole.false) (held c.are_whole_steps.ensures c.if-not-are_whole_steps.false)
+    (held c.is_whole-broken.ensures c.if-broken.false) (held c.are_whole_steps-uneven.ensures c.if-uneven.false)
     c.play.result c.play.new.t c.play.new.verdicts
-    (le-leb (step_count c.args.steps.now) (length c.args.verdicts.now) c.if-verdicts-steps.false)
+    (le-leb (step_count c.args.steps.now) (length c.args.verdicts.now) c.if-short.false)
     c.play.ensures

@@ -12,31 +12,31 @@ use Rattle.rules.specs.Step.{number_of, place_of, table_after}
 use Rattle.step.proofs.Outcomes.{full, not_allowed, refuses, taken}
 use Rattle.step.proofs.judge.decide.Goals as goal
 
-pub is_allowed-requires : goal.is_allowed-requires
-is_allowed-requires c = for_table (without_row c.requires.1)
+pub is_allowed-barred-requires : goal.is_allowed-barred-requires
+is_allowed-barred-requires c = for_table (without_row c.requires.1)
 
-pub returns-then-not-is_allowed : goal.returns-then-not-is_allowed
-returns-then-not-is_allowed c =
-    let told = c.is_allowed.ensures c.args.n (without_row c.requires.1) in
+pub returns-then-barred : goal.returns-then-barred
+returns-then-barred c =
+    let told = c.is_allowed-barred.ensures c.args.n (without_row c.requires.1) in
     refuses c.args.n c.args.t.now Refusal.Condition
-    (not_allowed c.args.answers c.args.n c.args.t.now c.args.s.now (failed told c.if-not-is_allowed.true))
+    (not_allowed c.args.answers c.args.n c.args.t.now c.args.s.now (failed told c.if-barred.true))
 
-pub returns-then-room-n : goal.returns-then-room-n
-returns-then-room-n c =
-    let told = c.is_allowed.ensures c.args.n (without_row c.requires.1) in
-    let met : c.is_allowed.result ≡ true = cc in
-    let none = le-ltb c.args.n (room_of c.args.t.now) (omega (arith, c.if-room-n.true, c.room.ensures)) in
+pub returns-then-full : goal.returns-then-full
+returns-then-full c =
+    let told = c.is_allowed-barred.ensures c.args.n (without_row c.requires.1) in
+    let met : c.is_allowed-barred.result ≡ true = cc in
+    let none = le-ltb c.args.n (room_of c.args.t.now) (omega (arith, c.if-full.true, c.room.ensures)) in
     refuses c.args.n c.args.t.now Refusal.Room
     (full c.args.answers c.args.n c.args.t.now c.args.s.now (held told met) none)
 
 pub returns : goal.returns
 returns c =
-    let allowed = c.is_allowed.ensures c.args.n (without_row c.requires.1) in
-    let some = lt-ltb c.args.n (room_of c.args.t.now) (omega (arith, c.if-room-n.false, c.room.ensures)) in
-    let came = taken c.args.answers c.args.n c.args.t.now c.args.s.now (held allowed c.if-not-is_allowed.false) some c.added-m.ensures in
+    let allowed = c.is_allowed-barred.ensures c.args.n (without_row c.requires.1) in
+    let some = lt-ltb c.args.n (room_of c.args.t.now) (omega (arith, c.if-full.false, c.room.ensures)) in
+    let came = taken c.args.answers c.args.n c.args.t.now c.args.s.now (held allowed c.if-barred.false) some c.added-m.ensures in
     record {
       number = sym (ap number_of came);
       place = sym (ap (place_of c.args.n) came);
       table = cc (ap (table_after c.args.n c.args.t.now) came);
-      small = omega (arith, under_most c.args.n c.args.t.now c.requires.0 (omega (arith, c.if-room-n.false, c.room.ensures)));
+      small = omega (arith, under_most c.args.n c.args.t.now c.requires.0 (omega (arith, c.if-full.false, c.room.ensures)));
     }
