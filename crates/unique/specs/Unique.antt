@@ -1,5 +1,6 @@
 -- Of each public operation: any two results that its promise allows are equal, its answer and everything lent. A promise that is an equation,
--- as those of most helpers, allows one result by the first of these; each of the others has its own. Where each is proved is said beside it.
+-- as those of most helpers, allows one result by the first of these; each of the others has its own, but for the
+-- exceptions in docs/PROMISES.md. Where each is proved is said beside it.
 use Rattle.std.specs.Prelude.{ℕ, List, None, Option, Result, Some, ◌≡◌, length}
 use Rattle.std.specs.Borrow.{Bor}
 use Rattle.host.specs.Entries.{Ran as RanBy, Read, Stepped}
